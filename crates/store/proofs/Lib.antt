@@ -1,0 +1,14 @@
+pub mod Prefixes
+pub mod Counted
+pub mod Tallies
+pub mod Worlds
+pub mod Questions
+pub mod Inversions
+pub mod Laws
+pub mod Keeps
+pub mod Books
+pub mod Asks
+pub mod Writes
+pub mod Opens
+pub mod Stores
+pub mod Runs

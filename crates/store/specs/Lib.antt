@@ -1,0 +1,9 @@
+pub mod World
+pub mod Faults
+pub mod Outcome
+pub mod Run
+pub mod Counts
+pub mod Book
+pub mod Held
+pub mod Attempt
+pub mod Views
