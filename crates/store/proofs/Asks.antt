@@ -10,19 +10,19 @@ use Rattle.std.proofs.shelf.Tests.{lt-ltb, le-ltb, cond-true, cond-false}
 use Rattle.std.specs.declared.result.Result.{Result}
 use Rattle.std.specs.declared.result.Result.the-variants.{Ok, Err}
 use Rattle.kinds.specs.Events.{Seen, common, nothing}
-use Rattle.store.specs.declared.calls.Meeting.{Meeting}
-use Rattle.store.specs.declared.calls.Meeting.the-variants.{Seen as Met, Apart}
-use Rattle.store.specs.declared.fault.StoreFault.{StoreFault}
-use Rattle.store.specs.declared.fault.StoreFault.the-variants.{NoVersion, NotStored, BranchesFull, NoBranch, NoSource, VersionsFull, NoBase}
+use Rattle.calls.specs.declared.calls.Meeting.{Meeting}
+use Rattle.calls.specs.declared.calls.Meeting.the-variants.{Seen as Met, Apart}
+use Rattle.calls.specs.declared.fault.StoreFault.{StoreFault}
+use Rattle.calls.specs.declared.fault.StoreFault.the-variants.{NoVersion, NotStored, BranchesFull, NoBranch, NoSource, VersionsFull, NoBase}
 use Rattle.store.specs.declared.store.Store.{Store}
-use Rattle.store.specs.World.{World, seen-by, inside, stored, lowest}
+use Rattle.calls.specs.World.{World, seen-by, inside, stored, lowest}
 use Rattle.store.specs.Book.{world}
-use Rattle.store.specs.Counts.{tally}
-use Rattle.store.specs.Outcome.{asked, started, spare, forking, asking, changing, merging}
+use Rattle.calls.specs.Counts.{tally}
+use Rattle.calls.specs.Outcome.{asked, started, spare, forking, asking, changing, merging}
 use Rattle.store.specs.Views.{book, record-at}
-use Rattle.store.proofs.Inversions.{asked-yes, asked-no, asking-ok, meeting}
+use Rattle.calls.proofs.Inversions.{asked-yes, asked-no, asking-ok, meeting}
 use Rattle.store.proofs.Books.{sound-of, made-of, branches-of, head-at, head-below, count-at, head-count}
-use Rattle.store.proofs.Questions.{Base, inside-yes, inside-no, stored-yes, stored-no, lowest-is}
+use Rattle.calls.proofs.Questions.{Base, inside-yes, inside-no, stored-yes, stored-no, lowest-is}
 
 module _ {A : Type 0} (s : Store A) where
   abbrev w : World

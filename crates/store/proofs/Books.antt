@@ -10,17 +10,17 @@ use denote.Ref.{now}
 use Rattle.std.proofs.shelf.Lists.{take-more-set, map-push, length-take-le, getD-take, getD-map, length-push}
 use Rattle.std.proofs.shelf.Tests.{and-parts, and-from}
 use Rattle.kinds.specs.Events.{Seen, Event, nothing}
-use Rattle.store.specs.declared.calls.Action.{Action}
-use Rattle.store.specs.declared.calls.Step.{Step}
-use Rattle.store.specs.declared.calls.Version.{Version}
+use Rattle.calls.specs.declared.calls.Action.{Action}
+use Rattle.calls.specs.declared.calls.Step.{Step}
+use Rattle.calls.specs.declared.calls.Version.{Version}
 use Rattle.store.specs.declared.store.Store.{Store}
-use Rattle.store.specs.World.{World, advance, opened, seen-by}
-use Rattle.store.specs.Run.{advances}
-use Rattle.store.specs.Counts.{tally, record-of, records-of}
-use Rattle.store.specs.Book.{Book, actions, told, world, possible, all-possible, Appends}
+use Rattle.calls.specs.World.{World, advance, opened, seen-by}
+use Rattle.calls.specs.Run.{advances, possible, all-possible}
+use Rattle.calls.specs.Counts.{tally, record-of, records-of}
+use Rattle.store.specs.Book.{actions, told, world}
 use Rattle.store.specs.Views.{book, record-at}
-use Rattle.store.proofs.Worlds.{Sound, sound-opened, sound-after, sound-advance}
-use Rattle.store.proofs.Questions.{count-is}
+use Rattle.calls.proofs.Worlds.{Sound, sound-opened, sound-after, sound-advance}
+use Rattle.calls.proofs.Questions.{count-is}
 
 -- ---- one step more
 pub advances-append : (w : World) (acts more : List Action) → advances w (acts ++ more) ≡ advances (advances w acts) more

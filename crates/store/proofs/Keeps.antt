@@ -1,84 +1,57 @@
 -- What a tried call gives where each version's value stands for what the version has seen.
 use Prim.Native.Nat.{ℕ, zero, suc, _+_, _≤_, _<_}
 use mathlib.Core.Path.{_≡_, refl, sym, ap, _∙_, subst}
-use mathlib.Core.Bool.{Bool, true, false, cond, _||_}
+use mathlib.Core.Bool.{Bool, true, cond}
 use mathlib.Core.List.{List, [], _∷_, _++_}
-use mathlib.Core.Logic.{⊎-elim}
 use native.Mathlib.Omega.{arith}
 use lib.IntN.{ℤ}
 use lib.ListN.{length, getD, set}
-use Rattle.std.proofs.shelf.Lists.{append-nil}
-use Rattle.std.proofs.shelf.Tests.{cases-bool, eq-eqb, ne-eqb}
+use Rattle.std.proofs.shelf.Elements.{all-from-getD}
+use Rattle.std.specs.shelf.Lists.{All}
 use Rattle.std.specs.declared.result.Result.{Result}
 use Rattle.std.specs.declared.result.Result.the-variants.{Ok, Err}
 use Rattle.kinds.specs.Events.{Seen, Event, joined, nothing, pick}
-use Rattle.kinds.specs.History.{History, Closed, Next}
+use Rattle.kinds.specs.History.{History, Next}
 use Rattle.kinds.specs.Meaning.{Meaning, Known}
 use Rattle.kinds.specs.Duties.{Changed, Changes, Merged, Merges}
 use Rattle.kinds.specs.declared.calls.Change as kind
 use Rattle.kinds.specs.declared.calls.Question.{Question}
 use Rattle.kinds.specs.declared.fault.KindFault.{KindFault}
-use Rattle.kinds.proofs.Picks.{pick-append, pick-same, pick-none, pick-yes, of-picked, picked, in-cons, in-none, by-bool}
+use Rattle.kinds.proofs.Picks.{pick-same, of-picked, picked, by-bool}
 use Rattle.kinds.proofs.Histories.{history-pick, by-last}
-use Rattle.store.specs.declared.calls.Action.the-variants.{Fork, Change, Merge}
-use Rattle.store.specs.declared.calls.Call.{Call}
-use Rattle.store.specs.declared.calls.Call.the-variants.{Act, Ask}
-use Rattle.store.specs.declared.calls.Meeting.{Meeting}
-use Rattle.store.specs.declared.calls.Meeting.the-variants.{Seen as Met, Apart}
-use Rattle.store.specs.declared.calls.Reply.the-variants.{Branch, Version as Version-made, Changed as Change-made}
-use Rattle.store.specs.declared.fault.StoreFault.{StoreFault}
-use Rattle.store.specs.declared.fault.StoreFault.the-variants.{OfKind}
-use Rattle.store.specs.World.{World, advance, seen-by, history-of, next-event, with-event, stored, lowest}
-use Rattle.store.specs.Outcome.{Outcome, changing, merging, and-then, change-verdict, merge-verdict, met-outcome, question-verdict, outcome}
-use Rattle.store.specs.Run.{advances, follow}
+use Rattle.calls.specs.declared.calls.Action.the-variants.{Fork, Change, Merge}
+use Rattle.calls.specs.declared.calls.Call.{Call}
+use Rattle.calls.specs.declared.calls.Call.the-variants.{Act, Ask}
+use Rattle.calls.specs.declared.calls.Meeting.{Meeting}
+use Rattle.calls.specs.declared.calls.Meeting.the-variants.{Seen as Met, Apart}
+use Rattle.calls.specs.declared.calls.Reply.the-variants.{Branch, Version as Version-made, Changed as Change-made}
+use Rattle.calls.specs.declared.fault.StoreFault.{StoreFault}
+use Rattle.calls.specs.declared.fault.StoreFault.the-variants.{OfKind}
+use Rattle.calls.specs.World.{World, advance, seen-by, history-of, next-event, with-event, stored, lowest}
+use Rattle.calls.specs.Outcome.{Outcome, changing, merging, and-then, change-verdict, merge-verdict, met-outcome, question-verdict, outcome}
+use Rattle.calls.specs.Run.{advances, follow}
 use Rattle.store.specs.Held.{Memory, Valued, Held}
 use Rattle.store.specs.Attempt.{past, Reads, next-stamp, answered, Fork-tried, Change-tried, Merge-tried, Ask-tried, Tried, Kept}
-use Rattle.store.proofs.Prefixes.{Numbered, Each, Only}
-use Rattle.store.proofs.Counted.{in-numbered}
-use Rattle.store.proofs.Worlds.{Sound}
-use Rattle.store.proofs.Inversions.{asked-yes, asked-no, asking-ok, changing-ok, both, Parted, merging-apart}
-use Rattle.store.proofs.Laws.{each-at, each-map, versions-only, seen-sound, same-in, lowest-same, pick-unseen}
+use Rattle.calls.proofs.Prefixes.{Numbered, Only}
+use Rattle.calls.proofs.Counted.{same-is}
+use Rattle.calls.proofs.Tallies.{number-above, pick-before, pick-with}
+use Rattle.calls.proofs.Worlds.{Sound, both, version-only, seen-only, seen-closed, both-only}
+use Rattle.calls.proofs.Questions.{lowest-same}
+use Rattle.calls.proofs.Inversions.{asked-yes, asked-no, asking-ok, changing-ok, Parted, merging-apart}
 
--- ---- one event more
-module _ (es : List Event) (e : Event) (num : Numbered 0 es) (number : e .number ≡ length es + 1) where
-  unseen : (s : Seen) → Only s es → s (e .number) ≡ false
-  unseen s only =
-      ⊎-elim (λ t. absurd (
-      let f = only (e .number) t in
-      let r = in-numbered 0 es (f .0) num (f .1 .0) in
-      let q = f .1 .1 in
-      omega arith))
-      (λ z. z) (cases-bool (s (e .number)))
-
-  -- a set that has not seen the event
-  pick-before : (s : Seen) → Only s es → pick s (es ++ (e ∷ [])) ≡ pick s es
-  pick-before s only =
-      pick-append s es (e ∷ [])
-      ∙ ap (λ (l : List Event). pick s es ++ l)
-      (pick-unseen s (e ∷ []) (λ f i. ⊎-elim (λ q. subst (λ (x : Event). s (x .number) ≡ false) q (unseen s only)) (λ j. absurd (in-none j)) (in-cons i)))
-      ∙ append-nil (pick s es)
-
-  -- a set with the event
-  pick-with : (s : Seen) → pick (with-event s (length es + 1)) (es ++ (e ∷ [])) ≡ pick s es ++ (e ∷ [])
-  pick-with s =
-      let t : Seen = with-event s (length es + 1) in
-      pick-append t es (e ∷ [])
-      ∙ ap (λ (l : List Event). l ++ pick t (e ∷ []))
-      (pick-same t s es (λ f i. ap (λ b. b || s (f .number)) (ne-eqb (f .number) (length es + 1) (λ q. let a = in-numbered 0 es f num i in omega arith))))
-      ∙ ap (λ (l : List Event). pick s es ++ l)
-      (pick-yes t e [] (ap (λ b. b || s (e .number)) (eq-eqb (e .number) (length es + 1) number)) ∙ ap {B = List Event} (λ l. e ∷ l) (pick-none t))
-
-  next-pick : (s : Seen) → length es + 1 ≤ 4095 → e .branch < 16 → e .saw ≡ s → Only s es → Next (pick s es) e
-  next-pick s few branch saw only = record {
-    numbered = (omega arith, omega arith);
-    branched = branch;
-    above = λ f i. let r = in-numbered 0 es f num (of-picked s es f i .0) in omega arith;
-    all = λ f i. ap (λ (z : Seen). z (f .number)) saw ∙ of-picked s es f i .1;
-    only = λ n t.
-        let t′ : s n ≡ true = sym (ap (λ (z : Seen). z n) saw) ∙ t in
-        let f = only n t′ in
-        (f .0, (picked s es (f .0) (f .1 .0) (subst (λ k. s k ≡ true) (sym (f .1 .1)) t′), f .1 .1));
-  }
+-- the event that a change is comes next after what its branch has seen
+next-pick : (es : List Event) (e : Event) → Numbered 0 es → e .number ≡ length es + 1 → (s : Seen) → length es + 1 ≤ 4095 → e .branch < 16 → e .saw ≡ s → Only s es →
+    Next (pick s es) e
+next-pick es e num number s few branch saw only = record {
+  numbered = (omega arith, omega arith);
+  branched = branch;
+  above = λ f i. number-above es e num number f (of-picked s es f i .0);
+  all = λ f i. ap (λ (z : Seen). z (f .number)) saw ∙ of-picked s es f i .1;
+  only = λ n t.
+      let t′ : s n ≡ true = sym (ap (λ (z : Seen). z n) saw) ∙ t in
+      let f = only n t′ in
+      (f .0, (picked s es (f .0) (f .1 .0) (subst (λ k. s k ≡ true) (sym (f .1 .1)) t′), f .1 .1));
+}
 
 -- ---- values
 module _ {A : Type 0} (R : A → List Event → Type 0) where
@@ -89,7 +62,7 @@ module _ {A : Type 0} (R : A → List Event → Type 0) where
   valued-at es (s ∷ ss) (v ∷ vs) zero x h l q = subst (λ (y : A). R y (pick s es)) (sym q) (h .0)
   valued-at es (s ∷ ss) (v ∷ vs) (suc i) x h l q = valued-at es ss vs i x (h .1) (omega arith) q
 
-  pub valued-push : (es es′ : List Event) (ss : List Seen) (vs : List A) (s : Seen) (x : A) → Each (λ s. pick s es ≡ pick s es′) ss → Valued R es ss vs →
+  pub valued-push : (es es′ : List Event) (ss : List Seen) (vs : List A) (s : Seen) (x : A) → All (λ s. pick s es ≡ pick s es′) ss → Valued R es ss vs →
       length ss < length vs → R x (pick s es′) → Valued R es′ (ss ++ (s ∷ [])) (set vs (length ss) x)
   valued-push es es′ [] [] s x e h l r = absurd (omega arith)
   valued-push es es′ [] (v ∷ vs) s x e h l r = (r, tt)
@@ -137,11 +110,8 @@ module _ {A : Type 0} (m : Meaning) (R : A → List Event → Type 0) (k k′ : 
   abbrev w : World
   w = past k
 
-  head-closed : (b : ℕ) → b < length (w .heads) → Closed (seen-by w b) (w .events)
-  head-closed b l = each-at (λ s. Closed s (w .events)) (w .versions) (getD (w .heads) b 0) nothing (sound .closed) (sound .headed b l)
-
-  head-history : (b : ℕ) → b < length (w .heads) → History (history-of w b)
-  head-history b l = history-pick (seen-by w b) (w .events) (sound .history) (head-closed b l)
+  head-history : (b : ℕ) → History (history-of w b)
+  head-history b = history-pick (seen-by w b) (w .events) (sound .history) (seen-closed w sound b)
 
   head-known : (b : ℕ) → Known m (history-of w b)
   head-known b e i = held .known e (of-picked (seen-by w b) (w .events) e i .0)
@@ -175,8 +145,8 @@ module _ {A : Type 0} (m : Meaning) (R : A → List Event → Type 0) (k k′ : 
     change-met head v x r q read duty =
         let a = changing-ok (k .book .usable) w b head q in
         let few : length (w .events) + 1 ≤ 4095 = let i = sound .spare in let j = sound .headed b (a .0) in let l = a .1 .0 in omega arith in
-        duty .defined (history-of w b) (next-event w b c) (head-history b (a .0)) (head-known b)
-        (next-pick (w .events) (next-event w b c) (sound .numbered) refl (seen-by w b) few (let i = sound .few in let j = a .0 in omega arith) refl (seen-sound w sound b))
+        duty .defined (history-of w b) (next-event w b c) (head-history b) (head-known b)
+        (next-pick (w .events) (next-event w b c) (sound .numbered) refl (seen-by w b) few (let i = sound .few in let j = a .0 in omega arith) refl (seen-only w sound b))
         (record { number = refl; branch = refl; made = refl }) (head-stands b head v (a .0) (a .1 .1) read)
 
     change-kept : (o : Outcome) → past k′ ≡ follow w (Act (Change b c)) o → Change-tried m R k b c o k′ → Kept m R k (Act (Change b c)) o k′
@@ -195,8 +165,8 @@ module _ {A : Type 0} (m : Meaning) (R : A → List Event → Type 0) (k k′ : 
               (ap (λ (z : Memory A). z .values) kq ∙ ap (λ n. set (k .values) n x) made)
               (by-last (λ f. m .knows (f .change) ≡ true) (w .events) e (held .known) (stands .0))
               (valued-push R (w .events) (w .events ++ (e ∷ [])) (w .versions) (k .values) (with-event (seen-by w b) (length (w .events) + 1)) x
-              (each-map (λ s. Only s (w .events)) (λ s. pick s (w .events) ≡ pick s (w .events ++ (e ∷ []))) (w .versions)
-              (λ s only. sym (pick-before (w .events) e (sound .numbered) refl s only)) (versions-only w sound))
+              (all-from-getD (λ s. pick s (w .events) ≡ pick s (w .events ++ (e ∷ []))) (w .versions) nothing (λ i l.
+              sym (pick-before (w .events) e (sound .numbered) refl (getD (w .versions) i nothing) (version-only w sound i))))
               (held .values) (let l = room (changing-ok (k .book .usable) w b head q .1 .0) in omega arith)
               (subst (R x) (sym (pick-with (w .events) e (sound .numbered) refl (seen-by w b))) (stands .1)));
         }
@@ -211,7 +181,8 @@ module _ {A : Type 0} (m : Meaning) (R : A → List Event → Type 0) (k k′ : 
     base-stands base x t q read =
         let i = lowest (w .events) (both w d s) (w .versions) in
         let low = lowest-same (w .events) (both w d s) (w .versions) t in
-        subst (R x) (pick-same (getD (w .versions) i nothing) (both w d s) (w .events) (same-in (w .events) (getD (w .versions) i nothing) (both w d s) (low .1)))
+        subst (R x) (pick-same (getD (w .versions) i nothing) (both w d s) (w .events) (λ e j.
+        same-is (w .events) (getD (w .versions) i nothing) (both w d s) (version-only w sound i) (both-only w sound d s) (low .1) (e .number)))
         (valued-at R (w .events) (w .versions) (k .values) i x (held .values) (low .0) (subst (λ j. x ≡ getD (k .values) j x) q (read .1)))
 
     merge-met : (base first second : ℕ) (x y z : A) (r : Result A KindFault) → Parted (k .book .usable) w d s (Apart base first second) → Reads k base x → Reads k first y → Reads k second z →
@@ -221,7 +192,7 @@ module _ {A : Type 0} (m : Meaning) (R : A → List Event → Type 0) (k k′ : 
         let q0 : base ≡ lowest (w .events) (both w d s) (w .versions) = cc in
         let q1 : first ≡ getD (w .heads) d 0 = cc in
         let q2 : second ≡ getD (w .heads) s 0 = cc in
-        duty (w .events) (seen-by w d) (seen-by w s) (sound .history) (held .known) (head-closed d (a .into)) (head-closed s (a .source))
+        duty (w .events) (seen-by w d) (seen-by w s) (sound .history) (held .known) (seen-closed w sound d) (seen-closed w sound s)
         (base-stands base x (a .based) q0 rx) (head-stands d first y (a .into) q1 ry) (head-stands s second z (a .source) q2 rz)
 
     merge-kept : (o : Outcome) → past k′ ≡ follow w (Act (Merge d s)) o → Merge-tried m R k d s o k′ → Kept m R k (Act (Merge d s)) o k′
@@ -243,7 +214,7 @@ module _ {A : Type 0} (m : Meaning) (R : A → List Event → Type 0) (k k′ : 
               (ap (λ (z : Memory A). z .values) kq ∙ ap (λ n. set (k .values) n new) made)
               (held .known)
               (valued-push R (w .events) (w .events) (w .versions) (k .values) (joined (seen-by w d) (seen-by w s)) new
-              (each-map (λ s. Only s (w .events)) (λ s. pick s (w .events) ≡ pick s (w .events)) (w .versions) (λ s only. refl) (versions-only w sound))
+              (all-from-getD (λ s. pick s (w .events) ≡ pick s (w .events)) (w .versions) nothing (λ i l. refl))
               (held .values) (let l = room (a .1 .room) in omega arith)
               (merge-stands m R (pick (joined (seen-by w d) (seen-by w s)) (w .events)) new met));
         }
@@ -255,7 +226,7 @@ module _ {A : Type 0} (m : Meaning) (R : A → List Event → Type 0) (k k′ : 
       record {
         as-defined = oq
             ∙ by-bool (m .hears q)
-            (λ t. ap answered (duty .known t (history-of w b) (head-history b (a .0)) (head-known b) (head-stands b head v (a .0) (a .1) read)) ∙ sym (asked-yes (m .hears q) _ _ t))
+            (λ t. ap answered (duty .known t (history-of w b) (head-history b) (head-known b) (head-stands b head v (a .0) (a .1) read)) ∙ sym (asked-yes (m .hears q) _ _ t))
             (λ t. ap answered (duty .unknown t) ∙ sym (asked-no (m .hears q) _ _ t))
             ∙ sym (ap (λ (r : Result ℕ StoreFault). and-then r (λ head. question-verdict m w b q)) e);
         held = same-held kq;

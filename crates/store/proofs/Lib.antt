@@ -1,10 +1,3 @@
-pub mod Prefixes
-pub mod Counted
-pub mod Tallies
-pub mod Worlds
-pub mod Questions
-pub mod Inversions
-pub mod Laws
 pub mod Keeps
 pub mod Books
 pub mod Asks

@@ -9,12 +9,13 @@ use Rattle.std.proofs.shelf.Lists.{take-more-set}
 use Rattle.kinds.specs.Events.{Event, nothing, pick}
 use Rattle.kinds.specs.Meaning.{Meaning, Known}
 use Rattle.kinds.proofs.Picks.{in-none, pick-none}
-use Rattle.store.specs.declared.calls.Step.{Step}
-use Rattle.store.specs.declared.calls.Version.{Version}
-use Rattle.store.specs.World.{World, opened}
+use Rattle.calls.specs.declared.calls.Step.{Step}
+use Rattle.calls.specs.declared.calls.Version.{Version}
+use Rattle.calls.specs.World.{World, opened}
 use Rattle.store.specs.Held.{Held, Memory, Valued, First-written}
-use Rattle.store.specs.Counts.{total, record-of, records-of}
-use Rattle.store.specs.Book.{Book, actions, all-possible, told, world, blank, resized}
+use Rattle.calls.specs.Counts.{total, record-of, records-of}
+use Rattle.calls.specs.Run.{all-possible}
+use Rattle.store.specs.Book.{Book, actions, told, world, blank, resized}
 
 abbrev zeros : Version
 zeros = record { counts = replicate 16 0 }

@@ -9,20 +9,20 @@ use Rattle.kinds.specs.Events.{Event, nothing}
 use Rattle.kinds.specs.Meaning.{Meaning}
 use Rattle.kinds.specs.declared.calls.Change as kind
 use Rattle.kinds.specs.declared.calls.Question.{Question}
-use Rattle.store.specs.declared.calls.Action.{Action}
-use Rattle.store.specs.declared.calls.Action.the-variants.{Fork, Change, Merge}
-use Rattle.store.specs.declared.calls.Call.{Call}
-use Rattle.store.specs.declared.calls.Call.the-variants.{Act, Ask}
-use Rattle.store.specs.declared.calls.Step.{Step}
-use Rattle.store.specs.Counts.{record-of}
-use Rattle.store.specs.World.{World, opened}
-use Rattle.store.specs.Outcome.{Outcome, outcome}
-use Rattle.store.specs.Run.{Log, log-of, after, follow, step-of, steps-of}
+use Rattle.calls.specs.declared.calls.Action.{Action}
+use Rattle.calls.specs.declared.calls.Action.the-variants.{Fork, Change, Merge}
+use Rattle.calls.specs.declared.calls.Call.{Call}
+use Rattle.calls.specs.declared.calls.Call.the-variants.{Act, Ask}
+use Rattle.calls.specs.declared.calls.Step.{Step}
+use Rattle.calls.specs.Counts.{record-of}
+use Rattle.calls.specs.World.{World, opened}
+use Rattle.calls.specs.Outcome.{Outcome, outcome}
+use Rattle.calls.specs.Run.{Log, log-of, after, follow, step-of, steps-of}
 use Rattle.store.specs.Book.{Book, Recorded, actions, told, begun}
 use Rattle.store.specs.Held.{Memory, Held, Opened, First-written}
 use Rattle.store.specs.Attempt.{past, after-fork, after-action, Fork-tried, Change-tried, Merge-tried, Ask-tried, Tried, Attempted, Beyond, Ran}
 use Rattle.store.proofs.Opens.{told-none}
-use Rattle.store.proofs.Laws.{Defined}
+use Rattle.calls.proofs.Laws.{Defined}
 
 -- ---- memory past what is stored
 drop-further : {A : Type 0} (n m : ℕ) (xs ys : List A) → n ≤ m → drop n xs ≡ drop n ys → drop m xs ≡ drop m ys

@@ -16,25 +16,26 @@ use Rattle.kinds.specs.declared.calls.Change as kind
 use Rattle.kinds.specs.declared.calls.Question.{Question}
 use Rattle.kinds.specs.declared.calls.Stamp.{Stamp}
 use Rattle.kinds.specs.declared.fault.KindFault.{KindFault}
-use Rattle.store.specs.declared.calls.Action.{Action}
-use Rattle.store.specs.declared.calls.Action.the-variants.{Fork, Change, Merge}
-use Rattle.store.specs.declared.calls.Call.{Call}
-use Rattle.store.specs.declared.calls.Call.the-variants.{Act, Ask}
-use Rattle.store.specs.declared.calls.Meeting.the-variants.{Seen as Met, Apart}
-use Rattle.store.specs.declared.calls.Reply.{Reply}
-use Rattle.store.specs.declared.calls.Reply.the-variants.{Branch, Version, Changed, Answer}
-use Rattle.store.specs.declared.fault.StoreFault.{StoreFault}
-use Rattle.store.specs.declared.fault.StoreFault.the-variants.{OfKind}
+use Rattle.calls.specs.declared.calls.Action.{Action}
+use Rattle.calls.specs.declared.calls.Action.the-variants.{Fork, Change, Merge}
+use Rattle.calls.specs.declared.calls.Call.{Call}
+use Rattle.calls.specs.declared.calls.Call.the-variants.{Act, Ask}
+use Rattle.calls.specs.declared.calls.Meeting.the-variants.{Seen as Met, Apart}
+use Rattle.calls.specs.declared.calls.Reply.{Reply}
+use Rattle.calls.specs.declared.calls.Reply.the-variants.{Branch, Version, Changed, Answer}
+use Rattle.calls.specs.declared.fault.StoreFault.{StoreFault}
+use Rattle.calls.specs.declared.fault.StoreFault.the-variants.{OfKind}
 use Rattle.store.specs.declared.store.Store.{Store}
-use Rattle.store.specs.World.{World, opened, seen-by, inside, lowest}
-use Rattle.store.specs.Outcome.{Outcome, forking, asking, changing, merging}
-use Rattle.store.specs.Run.{follow, advances, step-of}
+use Rattle.calls.specs.World.{World, opened, seen-by, inside, lowest}
+use Rattle.calls.specs.Outcome.{Outcome, forking, asking, changing, merging}
+use Rattle.calls.specs.Run.{follow, advances, step-of}
 use Rattle.store.specs.Book.{actions}
 use Rattle.store.specs.Held.{Memory, Held}
 use Rattle.store.specs.Attempt.{past, Reads, next-stamp, after-fork, after-action, Fork-tried, Change-tried, Merge-tried, Ask-tried, Tried, Attempted, Kept, answered, replied, Settled}
 use Rattle.store.specs.Views.{memory}
-use Rattle.store.proofs.Inversions.{both, forking-ok, asking-ok, changing-ok, merging-apart, merging-met}
-use Rattle.store.proofs.Laws.{lowest-same}
+use Rattle.calls.proofs.Worlds.{both}
+use Rattle.calls.proofs.Questions.{lowest-same}
+use Rattle.calls.proofs.Inversions.{forking-ok, asking-ok, changing-ok, merging-apart, merging-met}
 use Rattle.store.proofs.Keeps.{tried-kept}
 use Rattle.store.proofs.Books.{advances-append, sound-of, made-of, branches-of, head-at, head-below}
 use Rattle.store.proofs.Writes.{forked-steps, appended-steps}

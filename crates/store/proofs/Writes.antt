@@ -13,20 +13,21 @@ use Rattle.std.proofs.shelf.Tests.{and-from, lt-ltb, cases-eq, cases-lt, eq-eqb
 use Rattle.std.proofs.shelf.Ways.{tells}
 use Rattle.kinds.specs.Events.{Seen, Event, joined, nothing}
 use Rattle.kinds.specs.declared.calls.Change as kind
-use Rattle.store.specs.declared.calls.Action.{Action}
-use Rattle.store.specs.declared.calls.Action.the-variants.{Fork, Change, Merge}
-use Rattle.store.specs.declared.calls.Step.{Step}
-use Rattle.store.specs.declared.calls.Version.{Version}
+use Rattle.calls.specs.declared.calls.Action.{Action}
+use Rattle.calls.specs.declared.calls.Action.the-variants.{Fork, Change, Merge}
+use Rattle.calls.specs.declared.calls.Step.{Step}
+use Rattle.calls.specs.declared.calls.Version.{Version}
 use Rattle.store.specs.declared.store.Store.{Store}
-use Rattle.store.specs.World.{World, advance, opened, seen-by, with-event, next-event}
-use Rattle.store.specs.Counts.{tally, record-of, records-of}
-use Rattle.store.specs.Book.{actions, told, world, possible, all-possible, Appends}
+use Rattle.calls.specs.World.{World, advance, opened, seen-by, with-event, next-event}
+use Rattle.calls.specs.Counts.{tally, record-of, records-of}
+use Rattle.calls.specs.Run.{possible, all-possible}
+use Rattle.store.specs.Book.{actions, told, world, Appends}
 use Rattle.store.specs.Attempt.{after-action}
 use Rattle.store.specs.Held.{Memory}
 use Rattle.store.specs.Views.{book, memory, record-at}
-use Rattle.store.proofs.Prefixes.{one-more}
-use Rattle.store.proofs.Worlds.{Sound, sound-advance}
-use Rattle.store.proofs.Questions.{count-is, tally-joined, tally-change, tally-small, records-kept}
+use Rattle.calls.proofs.Prefixes.{one-more}
+use Rattle.calls.proofs.Worlds.{Sound, sound-advance}
+use Rattle.calls.proofs.Questions.{count-is, tally-joined, tally-change, tally-small, records-kept}
 use Rattle.store.proofs.Books.{actions-more, told-more, still-possible, sound-of, made-of, branches-of, head-at, head-below, head-count}
 
 take-set-below : {A : Type 0} (n : ℕ) (l : List A) (i : ℕ) (a : A) → take n (set l i a) ≡ set (take n l) i a

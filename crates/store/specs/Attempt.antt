@@ -13,18 +13,18 @@ use Rattle.kinds.specs.declared.calls.Change as kind
 use Rattle.kinds.specs.declared.calls.Question.{Question}
 use Rattle.kinds.specs.declared.calls.Stamp.{Stamp}
 use Rattle.kinds.specs.declared.fault.KindFault.{KindFault}
-use Rattle.store.specs.declared.calls.Action.{Action}
-use Rattle.store.specs.declared.calls.Action.the-variants.{Fork, Change, Merge}
-use Rattle.store.specs.declared.calls.Call.{Call}
-use Rattle.store.specs.declared.calls.Call.the-variants.{Act, Ask}
-use Rattle.store.specs.declared.calls.Meeting.the-variants.{Seen as Met, Apart}
-use Rattle.store.specs.declared.calls.Reply.{Reply}
-use Rattle.store.specs.declared.calls.Reply.the-variants.{Branch, Version, Changed, Answer}
-use Rattle.store.specs.declared.fault.StoreFault.{StoreFault}
-use Rattle.store.specs.declared.fault.StoreFault.the-variants.{OfKind}
-use Rattle.store.specs.World.{World, opened}
-use Rattle.store.specs.Outcome.{Outcome, forking, asking, changing, merging, outcome}
-use Rattle.store.specs.Run.{Log, follow, after, step-of, steps-of}
+use Rattle.calls.specs.declared.calls.Action.{Action}
+use Rattle.calls.specs.declared.calls.Action.the-variants.{Fork, Change, Merge}
+use Rattle.calls.specs.declared.calls.Call.{Call}
+use Rattle.calls.specs.declared.calls.Call.the-variants.{Act, Ask}
+use Rattle.calls.specs.declared.calls.Meeting.the-variants.{Seen as Met, Apart}
+use Rattle.calls.specs.declared.calls.Reply.{Reply}
+use Rattle.calls.specs.declared.calls.Reply.the-variants.{Branch, Version, Changed, Answer}
+use Rattle.calls.specs.declared.fault.StoreFault.{StoreFault}
+use Rattle.calls.specs.declared.fault.StoreFault.the-variants.{OfKind}
+use Rattle.calls.specs.World.{World, opened}
+use Rattle.calls.specs.Outcome.{Outcome, forking, asking, changing, merging, outcome}
+use Rattle.calls.specs.Run.{Log, follow, after, step-of, steps-of}
 use Rattle.store.specs.Book.{Book, Recorded, actions, world, forked, appended}
 use Rattle.store.specs.Held.{Memory, Held}
 

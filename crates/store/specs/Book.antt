@@ -1,18 +1,17 @@
--- What a store's ledger holds: version records, steps and heads, with no value among them.
+-- What a store holds besides its values: version records, steps and heads.
 use Prim.Native.Nat.{ℕ, zero, suc, _+_}
 use mathlib.Core.Path.{_≡_}
-use mathlib.Core.Bool.{Bool, true, _&&_}
+use mathlib.Core.Bool.{true}
 use mathlib.Core.List.{List, [], _∷_, _++_, map}
-use lib.Dec.{ltb}
 use lib.ListN.{length, take, set}
 use Rattle.kinds.specs.Events.{nothing}
-use Rattle.store.specs.declared.calls.Action.{Action}
-use Rattle.store.specs.declared.calls.Action.the-variants.{Fork, Change, Merge}
-use Rattle.store.specs.declared.calls.Step.{Step}
-use Rattle.store.specs.declared.calls.Version.{Version}
-use Rattle.store.specs.World.{World, advance, opened, seen-by}
-use Rattle.store.specs.Run.{advances}
-use Rattle.store.specs.Counts.{record-of, records-of}
+use Rattle.calls.specs.declared.calls.Action.{Action}
+use Rattle.calls.specs.declared.calls.Action.the-variants.{Fork}
+use Rattle.calls.specs.declared.calls.Step.{Step}
+use Rattle.calls.specs.declared.calls.Version.{Version}
+use Rattle.calls.specs.World.{World, advance, opened, seen-by}
+use Rattle.calls.specs.Run.{advances, possible, all-possible}
+use Rattle.calls.specs.Counts.{record-of, records-of}
 
 -- The slices and the array are here whole; the numbers say how many of their elements are in use.
 pub record Book : Type 0 where
@@ -37,17 +36,7 @@ told V ss n = advances (opened V) (actions ss n)
 abbrev pub world : Book → World
 world k = told (k .usable) (k .steps) (k .taken)
 
--- whether an action can be a step: what it names is there, and there is room for what it makes
-abbrev pub possible : ℕ → World → Action → Bool
-possible V w (Fork v) = ltb v (length (w .versions)) && ltb (length (w .heads)) 16
-possible V w (Change b c) = ltb b (length (w .heads)) && ltb (length (w .versions)) V
-possible V w (Merge d s) = ltb d (length (w .heads)) && (ltb s (length (w .heads)) && ltb (length (w .versions)) V)
-
-abbrev pub all-possible : ℕ → World → List Action → Bool
-all-possible V w [] = true
-all-possible V w (a ∷ more) = possible V w a && all-possible V (advance w a) more
-
--- The book is in step with what its steps tell: this holds of every ledger.
+-- The book is in step with what its steps tell. This holds of every store.
 pub record Recorded (k : Book) : Type 0 where
   pub possible : all-possible (k .usable) (opened (k .usable)) (actions (k .steps) (k .taken)) ≡ true
   -- each version record says of each branch how many of its events the version has seen

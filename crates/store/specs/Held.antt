@@ -5,8 +5,8 @@ use mathlib.Core.List.{List, [], _∷_}
 use lib.ListN.{set, replicate}
 use Rattle.kinds.specs.Events.{Seen, Event, pick}
 use Rattle.kinds.specs.Meaning.{Meaning, Known}
-use Rattle.store.specs.declared.calls.Step.{Step}
-use Rattle.store.specs.declared.calls.Version.{Version}
+use Rattle.calls.specs.declared.calls.Step.{Step}
+use Rattle.calls.specs.declared.calls.Version.{Version}
 use Rattle.store.specs.Book.{Book, world, blank, resized}
 
 -- all that a store holds, with the three slices whole

@@ -1,8 +1,3 @@
-pub mod World
-pub mod Faults
-pub mod Outcome
-pub mod Run
-pub mod Counts
 pub mod Book
 pub mod Held
 pub mod Attempt

@@ -3,7 +3,7 @@ use Prim.Native.Nat.{ℕ}
 use mathlib.Core.List.{[]}
 use lib.ListN.{getD}
 use denote.Ref.{now}
-use Rattle.store.specs.declared.calls.Version.{Version}
+use Rattle.calls.specs.declared.calls.Version.{Version}
 use Rattle.store.specs.declared.store.Store.{Store}
 use Rattle.store.specs.Book.{Book}
 use Rattle.store.specs.Held.{Memory}

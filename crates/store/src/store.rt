@@ -4,11 +4,12 @@ ghost use denote.Ref.{now};
 ghost use lib.ListN.{length, take};
 ghost use mathlib.Core.Bool.{true};
 ghost use mathlib.Core.Path.{_≡_};
-ghost use Rattle.store.specs.Book.{actions, all-possible, told};
-ghost use Rattle.store.specs.Counts.{records-of};
-ghost use Rattle.store.specs.World.{opened};
-use crate::calls::Step;
-use crate::calls::Version;
+ghost use Rattle.store.specs.Book.{actions, told};
+ghost use Rattle.calls.specs.Run.{all-possible};
+ghost use Rattle.calls.specs.Counts.{records-of};
+ghost use Rattle.calls.specs.World.{opened};
+use calls::Step;
+use calls::Version;
 
 mod ask;
 mod change;

@@ -1,11 +1,12 @@
 // Questions.
-ghost use Rattle.store.specs.declared.calls.Call.the-variants.{Ask};
-ghost use Rattle.store.specs.declared.calls.Reply.the-variants.{Answer};
+ghost use mathlib.Core.Path.{_≡_};
+ghost use Rattle.calls.specs.declared.calls.Call.the-variants.{Ask};
+ghost use Rattle.calls.specs.declared.calls.Reply.the-variants.{Answer};
 ghost use Rattle.store.specs.Attempt.{Attempted, replied};
 ghost use Rattle.store.specs.Views.{memory};
 use super::Store;
-use crate::fault::StoreFault;
-use crate::fault::StoreFaultFromKind;
+use calls::StoreFault;
+use calls::StoreFaultFromKind;
 use kinds::Kind;
 use kinds::Question;
 
@@ -17,5 +18,12 @@ impl<'a, K: Kind> Store<'a, K> {
         let head = self.head(branch)?;
         let value = self.value(head);
         Ok(value.answer(question)?)
+    }
+
+    // How many versions can be stored.
+    pub fn usable(&self) -> usize
+        ensures { λ r. ⌜ r ≡ now (self .entry) .usable ⌝ }
+    {
+        self.usable
     }
 }

@@ -1,14 +1,14 @@
 // Changes.
 ghost use lib.IntN.{ℤ};
 ghost use Prim.Native.Nat.{ℕ};
-ghost use Rattle.store.specs.declared.calls.Action.the-variants.{Change as Change-of};
-ghost use Rattle.store.specs.declared.calls.Call.the-variants.{Act};
-ghost use Rattle.store.specs.declared.calls.Reply.the-variants.{Changed};
+ghost use Rattle.calls.specs.declared.calls.Action.the-variants.{Change as Change-of};
+ghost use Rattle.calls.specs.declared.calls.Call.the-variants.{Act};
+ghost use Rattle.calls.specs.declared.calls.Reply.the-variants.{Changed};
 ghost use Rattle.store.specs.Attempt.{Attempted, replied};
 ghost use Rattle.store.specs.Views.{memory};
 use super::Store;
-use crate::fault::StoreFault;
-use crate::fault::StoreFaultFromKind;
+use calls::StoreFault;
+use calls::StoreFaultFromKind;
 use kinds::Change;
 use kinds::Kind;
 

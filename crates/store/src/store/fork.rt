@@ -1,11 +1,11 @@
 // Forks.
-ghost use Rattle.store.specs.declared.calls.Action.the-variants.{Fork};
-ghost use Rattle.store.specs.declared.calls.Call.the-variants.{Act};
-ghost use Rattle.store.specs.declared.calls.Reply.the-variants.{Branch};
+ghost use Rattle.calls.specs.declared.calls.Action.the-variants.{Fork};
+ghost use Rattle.calls.specs.declared.calls.Call.the-variants.{Act};
+ghost use Rattle.calls.specs.declared.calls.Reply.the-variants.{Branch};
 ghost use Rattle.store.specs.Attempt.{Attempted, replied};
 ghost use Rattle.store.specs.Views.{memory};
 use super::Store;
-use crate::fault::StoreFault;
+use calls::StoreFault;
 use kinds::Kind;
 
 impl<'a, K: Kind> Store<'a, K> {

@@ -1,13 +1,13 @@
 // Merges.
-ghost use Rattle.store.specs.declared.calls.Action.the-variants.{Merge};
-ghost use Rattle.store.specs.declared.calls.Call.the-variants.{Act};
-ghost use Rattle.store.specs.declared.calls.Reply.the-variants.{Version as Version-made};
+ghost use Rattle.calls.specs.declared.calls.Action.the-variants.{Merge};
+ghost use Rattle.calls.specs.declared.calls.Call.the-variants.{Act};
+ghost use Rattle.calls.specs.declared.calls.Reply.the-variants.{Version as Version-made};
 ghost use Rattle.store.specs.Attempt.{Attempted, replied};
 ghost use Rattle.store.specs.Views.{memory};
 use super::Store;
-use crate::calls::Meeting;
-use crate::fault::StoreFault;
-use crate::fault::StoreFaultFromKind;
+use calls::Meeting;
+use calls::StoreFault;
+use calls::StoreFaultFromKind;
 use kinds::Kind;
 
 impl<'a, K: Kind> Store<'a, K> {

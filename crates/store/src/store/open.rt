@@ -1,12 +1,11 @@
 // The opened store.
 ghost use Prim.Native.Nat.{ℕ, _+_, _<_, _≤_};
 ghost use lib.ListN.{length};
-ghost use mathlib.Core.Path.{_≡_};
 ghost use Rattle.store.specs.Held.{Greatest, Held, Opened, lent, resized-memory};
 ghost use Rattle.store.specs.Views.{memory};
 use super::Store;
-use crate::calls::Step;
-use crate::calls::Version;
+use calls::Step;
+use calls::Version;
 use kinds::Kind;
 
 impl<'a, K: Kind> Store<'a, K> {
@@ -45,13 +44,6 @@ impl<'a, K: Kind> Store<'a, K> {
     {
         let usable = self.usable();
         self.reset(usable);
-    }
-
-    // How many versions can be stored.
-    pub fn usable(&self) -> usize
-        ensures { λ r. ⌜ r ≡ now (self .entry) .usable ⌝ }
-    {
-        self.usable
     }
 
     // The opened state, with this usable size.

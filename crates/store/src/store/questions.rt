@@ -5,13 +5,13 @@ ghost use mathlib.Core.Path.{_≡_};
 ghost use Rattle.std.specs.Options.{Cases};
 ghost use Rattle.store.specs.Attempt.{Reads, next-stamp};
 ghost use Rattle.store.specs.Book.{world};
-ghost use Rattle.store.specs.Outcome.{asking, changing, merging};
+ghost use Rattle.calls.specs.Outcome.{asking, changing, merging};
 ghost use Rattle.store.specs.Views.{book, memory, record-at};
 use super::Store;
-use crate::calls::Meeting;
-use crate::calls::Version;
 use crate::counts;
-use crate::fault::StoreFault;
+use calls::Meeting;
+use calls::StoreFault;
+use calls::Version;
 use kinds::Stamp;
 
 impl<'a, K: Copy> Store<'a, K> {

@@ -2,15 +2,15 @@
 ghost use Prim.Native.Nat.{ℕ, min};
 ghost use lib.ListN.{drop, length, take};
 ghost use mathlib.Core.Path.{_≡_};
-ghost use Rattle.store.specs.declared.calls.Call.the-variants.{Act};
+ghost use Rattle.calls.specs.declared.calls.Call.the-variants.{Act};
 ghost use Rattle.store.specs.Attempt.{Attempted, Ran};
-ghost use Rattle.store.specs.Run.{Lawful, log-of};
+ghost use Rattle.calls.specs.Run.{Lawful, log-of};
 ghost use Rattle.store.specs.Views.{memory};
 use super::Store;
-use crate::calls::Action;
-use crate::calls::Call;
-use crate::calls::Reply;
-use crate::fault::StoreFault;
+use calls::Action;
+use calls::Call;
+use calls::Reply;
+use calls::StoreFault;
 use kinds::Kind;
 
 impl<'a, K: Kind> Store<'a, K> {

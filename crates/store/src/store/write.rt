@@ -2,17 +2,17 @@
 ghost use Prim.Native.Nat.{ℕ, _+_, _<_};
 ghost use lib.ListN.{getD, length};
 ghost use mathlib.Core.Path.{_≡_};
-ghost use Rattle.store.specs.declared.calls.Action.the-variants.{Change as Change-of, Merge};
+ghost use Rattle.calls.specs.declared.calls.Action.the-variants.{Change as Change-of, Merge};
 ghost use Rattle.store.specs.Book.{Appends, world};
-ghost use Rattle.store.specs.Outcome.{forking};
+ghost use Rattle.calls.specs.Outcome.{forking};
 ghost use Rattle.store.specs.Attempt.{Settled, after-action, after-fork};
 ghost use Rattle.store.specs.Views.{book, memory};
 use super::Store;
-use crate::calls::Action;
-use crate::calls::Step;
-use crate::calls::Version;
 use crate::counts;
-use crate::fault::StoreFault;
+use calls::Action;
+use calls::Step;
+use calls::StoreFault;
+use calls::Version;
 use kinds::Change;
 
 impl<'a, K: Copy> Store<'a, K> {

@@ -5,9 +5,9 @@ use mir.Syntax.{w64}
 use borrow.Author.Needs.{needs}
 use Rattle.std.specs.declared.result.Result.the-variants.{Ok, Err}
 use Rattle.std.proofs.shelf.Results.{err-from-errBy}
-use Rattle.store.specs.declared.calls.Call.the-variants.{Ask}
-use Rattle.store.specs.declared.calls.Reply.the-variants.{Answer}
-use Rattle.store.specs.declared.fault.StoreFault.the-variants.{OfKind}
+use Rattle.calls.specs.declared.calls.Call.the-variants.{Ask}
+use Rattle.calls.specs.declared.calls.Reply.the-variants.{Answer}
+use Rattle.calls.specs.declared.fault.StoreFault.the-variants.{OfKind}
 use Rattle.store.specs.Attempt.{Attempted}
 use Rattle.store.specs.Views.{memory}
 use Rattle.store.proofs.Stores.{ask-refused, asking-below, ask-unkind, ask-answered}

@@ -5,10 +5,10 @@ use mir.Syntax.{w64}
 use borrow.Author.Needs.{needs}
 use Rattle.std.specs.declared.result.Result.the-variants.{Ok, Err}
 use Rattle.std.proofs.shelf.Results.{err-from-errBy}
-use Rattle.store.specs.declared.calls.Action.the-variants.{Change}
-use Rattle.store.specs.declared.calls.Call.the-variants.{Act}
-use Rattle.store.specs.declared.calls.Reply.the-variants.{Changed}
-use Rattle.store.specs.declared.fault.StoreFault.the-variants.{OfKind}
+use Rattle.calls.specs.declared.calls.Action.the-variants.{Change}
+use Rattle.calls.specs.declared.calls.Call.the-variants.{Act}
+use Rattle.calls.specs.declared.calls.Reply.the-variants.{Changed}
+use Rattle.calls.specs.declared.fault.StoreFault.the-variants.{OfKind}
 use Rattle.store.specs.Attempt.{Attempted}
 use Rattle.store.specs.Views.{memory}
 use Rattle.store.proofs.Stores.{change-refused, changing-below, changing-there, changing-room, change-unkind, change-made}

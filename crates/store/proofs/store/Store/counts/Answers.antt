@@ -2,7 +2,7 @@ use mathlib.Core.Path.{ap}
 use mathlib.Core.List.{[]}
 use native.Mathlib.Omega.{arith}
 use Rattle.std.proofs.shelf.Lists.{getD-read}
-use Rattle.store.specs.declared.calls.Version.{Version}
+use Rattle.calls.specs.declared.calls.Version.{Version}
 use Rattle.store.proofs.store.Store.counts.Needs as need
 
 pub returns : need.returns

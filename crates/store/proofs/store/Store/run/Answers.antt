@@ -5,10 +5,10 @@ use lib.ListN.{length, getD, take, drop}
 use borrow.Author.Needs.{needs}
 use Rattle.std.proofs.shelf.Lists.{getD-default}
 use Rattle.store.specs.Book.{Book}
-use Rattle.store.specs.Run.{Log, log-of}
-use Rattle.store.specs.World.{opened}
+use Rattle.calls.specs.Run.{Log, log-of}
+use Rattle.calls.specs.World.{opened}
 use Rattle.store.specs.Views.{memory}
-use Rattle.store.proofs.Laws.{Defined, lawful}
+use Rattle.calls.proofs.Laws.{Defined, lawful}
 use Rattle.store.proofs.Runs.{Running, running-more, ran, rest-more}
 use Rattle.store.proofs.store.Store.run.Needs as need
 

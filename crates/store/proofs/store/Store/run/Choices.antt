@@ -1,6 +1,6 @@
 use mathlib.Core.Path.{_≡_}
 use lib.ListN.{take, drop}
-use Rattle.store.specs.Run.{log-of}
+use Rattle.calls.specs.Run.{log-of}
 use Rattle.store.specs.Views.{memory}
 use Rattle.store.proofs.Runs.{Running}
 use Rattle.store.proofs.store.Store.run.Given as given

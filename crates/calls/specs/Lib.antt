@@ -1,0 +1,5 @@
+pub mod World
+pub mod Faults
+pub mod Outcome
+pub mod Run
+pub mod Counts
