@@ -1,5 +1,5 @@
 -- What a version has seen, told by how many events of each branch.
-use Rattle.std.specs.Prelude.{ℕ, ◌+◌, ◌-◌, cond, List, [], ◌∷◌, map, ◌==◌}
+use Rattle.std.specs.Prelude.{ℕ, ◌+◌, cond, List, [], ◌∷◌, map, ◌==◌}
 use Rattle.kinds.specs.Events.{Seen, Event, pick}
 use Rattle.calls.specs.declared.calls.Version.{Version}
 use Rattle.calls.specs.World.{World}

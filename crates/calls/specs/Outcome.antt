@@ -5,7 +5,6 @@ use Rattle.kinds.specs.Meaning.{Meaning}
 use Rattle.kinds.specs.declared.calls.Change as kind
 use Rattle.kinds.specs.declared.calls.Question.{Question}
 use Rattle.kinds.specs.declared.fault.KindFault.TheVariants.{UnknownChange, DoesNotFit, UnknownQuestion}
-use Rattle.calls.specs.declared.calls.Action.{Action}
 use Rattle.calls.specs.declared.calls.Action.TheVariants.{Fork, Change, Merge}
 use Rattle.calls.specs.declared.calls.Call.{Call}
 use Rattle.calls.specs.declared.calls.Call.TheVariants.{Act, Ask}

@@ -1,5 +1,5 @@
 -- What the branches and versions of a store have seen, as the accepted calls alone tell it. No value, no count and no memory occurs here.
-use Rattle.std.specs.Prelude.{ℕ, zero, suc, ◌+◌, Bool, true, false, cond, not, ◌&&◌, ◌||◌, List, [], ◌∷◌, ◌++◌, length, set, ◌==◌, slice_index, slice_index_or, slice_set}
+use Rattle.std.specs.Prelude.{ℕ, zero, suc, ◌+◌, Bool, true, false, cond, not, ◌&&◌, ◌||◌, List, [], ◌∷◌, ◌++◌, length, ◌==◌, slice_index, slice_index_or, slice_set}
 use Rattle.kinds.specs.Events.{Seen, Event, nothing, joined, pick}
 use Rattle.kinds.specs.declared.calls.Change as kind
 use Rattle.calls.specs.declared.calls.Action.{Action}

@@ -1,4 +1,6 @@
 // What is asked of a store of branches, what is seen by it, and what it has to say: the calls, their faults, and the law of a run.
+#![tactic(auto)]
+
 mod calls;
 mod fault;
 

@@ -8,7 +8,7 @@ use crate::{Change, KindFault, Question, Stamp};
 
 // A value lies in memory that a caller lends, so it is plain data that can be copied.
 pub trait Kind: Copy {
-    // The kind's number. No clause can cite a constant of a type parameter: what is proved of it is what `kind_number` ensures.
+    // The kind's number. No clause cites this constant: what is proved of it is what `kind_number` ensures.
     const NUMBER: u16;
 
     ghost number: { ℕ };

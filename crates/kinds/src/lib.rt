@@ -1,4 +1,6 @@
 // Kinds of value that branches hold and merge: what every kind owes, the counter, and pairs of kinds.
+#![tactic(auto)]
+
 mod calls;
 mod counter;
 mod fault;

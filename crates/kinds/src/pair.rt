@@ -1,6 +1,6 @@
 // A pair of any two kinds is a kind: even places belong to the left part, odd ones to the right.
 ghost use Rattle.std.specs.Prelude.{◌≡◌};
-ghost use Rattle.kinds.specs.Pair.{both_results, halved, halved_question, outer as outer-place, outer_fault, outer_result, pair, pair_number, part, side_of};
+ghost use Rattle.kinds.specs.Pair.{both_results, halved, halved_question, outer as outer_place, outer_fault, outer_result, pair, pair_number, part, side_of};
 ghost use Rattle.kinds.specs.declared.pair.Side.TheVariants.{Left, Right};
 ghost use Rattle.std.proofs.Common.{rules};
 
@@ -52,7 +52,7 @@ impl Side {
 
     // The pair's place for a place of this side's part.
     fn outer(self, place: u32) -> u32
-        ensures { result ≡ outer-place self place }
+        ensures { result ≡ outer_place self place }
     {
         match self {
             Side::Left => place.wrapping_mul(2),

@@ -11,7 +11,7 @@ returns-in-Left g c =
     (λ v h. (g.L.Kind.represents v.left (part Left h)) × (g.R.Kind.represents v.right (part Right h))) g.met.R.Kind.fitting _ _ _ _
     (record { left = c.change.new.self; right = c.args.self.now.right })
     (λ h p. p) (λ h p q. (p, q)) (λ p. ap (λ x. record { left = x; right = c.args.self.now.right }) p)
-    c.args.stamp c.args.change _ c.change.result (sym c.in-Left.ensures) b c.inner-change-inner.ensures c.outward.result c.outward.ensures c.change.ensures
+    c.args.stamp c.args.change _ c.change.result (sym c.in-Left.ensures) b c.inner_change-inner.ensures c.outward.result c.outward.ensures c.change.ensures
 
 pub returns-in-Right : goal.returns-in-Right
 returns-in-Right g c =
@@ -20,4 +20,4 @@ returns-in-Right g c =
     (λ v h. (g.L.Kind.represents v.left (part Left h)) × (g.R.Kind.represents v.right (part Right h))) g.met.L.Kind.fitting _ _ _ _
     (record { left = c.args.self.now.left; right = c.change-in-Right.new.self })
     (λ h p. (p.1, p.0)) (λ h p q. (q, p)) (λ p. ap (λ x. record { left = c.args.self.now.left; right = x }) p)
-    c.args.stamp c.args.change _ c.change-in-Right.result (sym c.in-Right.ensures) b c.inner-change-inner.ensures c.outward-in-Right.result c.outward-in-Right.ensures c.change-in-Right.ensures
+    c.args.stamp c.args.change _ c.change-in-Right.result (sym c.in-Right.ensures) b c.inner_change-inner.ensures c.outward-in-Right.result c.outward-in-Right.ensures c.change-in-Right.ensures
