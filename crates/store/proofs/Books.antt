@@ -1,19 +1,19 @@
 -- What a ledger's records, steps and heads tell, before and after a write.
-use Rattle.std.proofs.Common.{◌≡◌, ℕ, zero, suc, ◌+◌, ◌-◌, ◌<◌, ◌≤◌, min, max, Bool, true, false, ◌&&◌, ltb, List, [], ◌∷◌, ◌++◌, map, length, get_or, take, set, sym, refl, ap, ◌∙◌, subst, ap₂, arith, length-set}
+use Rattle.std.proofs.Common.{◌≡◌, ℕ, ◌+◌, ◌<◌, true, List, [], ◌∷◌, ◌++◌, map, length, get_or, take, set, sym, refl, ap, ◌∙◌, arith}
 use lib.ListN.{length-map}
-use Rattle.std.proofs.lemmas.List.{take_more_set, map_push, length-take-le, get_or-take, get_or-map, length_push}
+use Rattle.std.proofs.lemmas.List.{take_more_set, map_push, length-take-le, get_or-take, get_or-map}
 use Rattle.std.proofs.lemmas.Bool.{and_parts, and_from}
-use Rattle.kinds.specs.Events.{Seen, Event, nothing}
+use Rattle.kinds.specs.Events.{nothing}
 use Rattle.calls.specs.declared.calls.Action.{Action}
 use Rattle.calls.specs.declared.calls.Step.{Step}
 use Rattle.calls.specs.declared.calls.Version.{Version}
 use Rattle.store.specs.declared.store.Store.{Store}
 use Rattle.calls.specs.World.{World, advance, opened, seen_by}
 use Rattle.calls.specs.Run.{advances, possible, all_possible}
-use Rattle.calls.specs.Counts.{tally, record_of, records_of}
+use Rattle.calls.specs.Counts.{tally, record_of}
 use Rattle.store.specs.Book.{actions, told, world}
 use Rattle.store.specs.Views.{book, record_at}
-use Rattle.calls.proofs.Worlds.{Sound, sound_opened, sound_after, sound_advance}
+use Rattle.calls.proofs.Worlds.{Sound, sound_opened, sound_after}
 use Rattle.calls.proofs.Questions.{count_is}
 
 -- ---- one step more

@@ -16,7 +16,7 @@ use Rattle.calls.specs.declared.calls.Call.{Call}
 use Rattle.calls.specs.declared.calls.Call.TheVariants.{Act, Ask}
 use Rattle.calls.specs.declared.calls.Meeting.{Meeting}
 use Rattle.calls.specs.declared.calls.Meeting.TheVariants.{Seen as Met, Apart}
-use Rattle.calls.specs.declared.calls.Reply.TheVariants.{Branch, Version as Version-made, Changed as Change-made}
+use Rattle.calls.specs.declared.calls.Reply.TheVariants.{Branch, Version as VersionMade, Changed as ChangeMade}
 use Rattle.calls.specs.declared.fault.StoreFault.{StoreFault}
 use Rattle.calls.specs.declared.fault.StoreFault.TheVariants.{OfKind}
 use Rattle.calls.specs.World.{World, advance, seen_by, history_of, next_event, with_event, stored, lowest}
@@ -64,12 +64,12 @@ module _ {A : Type 0} (R : A → List Event → Type 0) where
 -- ---- what the kind's duties give
 -- the outcome of a change that the kind was asked for
 abbrev changed_by : ℕ → Result ℤ KindFault → Outcome
-changed_by n (Ok a) = Ok (Change-made n a)
+changed_by n (Ok a) = Ok (ChangeMade n a)
 changed_by n (Err f) = Err (OfKind f)
 
 -- the outcome of a merge that the kind was asked for
 abbrev merged_by : {A : Type 0} → ℕ → Result A KindFault → Outcome
-merged_by n (Ok a) = Ok (Version-made n)
+merged_by n (Ok a) = Ok (VersionMade n)
 merged_by n (Err f) = Err (OfKind f)
 
 module _ {A : Type 0} (m : Meaning) (R : A → List Event → Type 0) (w : World) where
@@ -152,7 +152,7 @@ module _ {A : Type 0} (m : Meaning) (R : A → List Event → Type 0) (k k' : Me
         let stands = change_stands m R (history_of w b) (next_event w b c) reply x met in
         let e = next_event w b c in
         record {
-          as_defined = oq ∙ ap (λ n. Ok (Change-made n reply)) made ∙ changed_verdict m R w b c (Ok reply) x met ∙ sym (changing_then (Ok head) q);
+          as_defined = oq ∙ ap (λ n. Ok (ChangeMade n reply)) made ∙ changed_verdict m R w b c (Ok reply) x met ∙ sym (changing_then (Ok head) q);
           held = held_as (advance w (Change b c)) (set k.values (length w.versions) x) (p ∙ ap (follow w (Act (Change b c))) oq)
               (ap (λ (z : Memory A). z.values) kq ∙ ap (λ n. set k.values n x) made)
               (by_last (λ f. m.knows f.change ≡ true) w.events e held.known stands.0)
@@ -200,7 +200,7 @@ module _ {A : Type 0} (m : Meaning) (R : A → List Event → Type 0) (k k' : Me
         let a = merging_apart k.book.usable w d s base first second q in
         let met = merge_met base first second x y z (Ok new) a.1 rx ry rz duty in
         record {
-          as_defined = oq ∙ ap (λ n. Ok (Version-made n)) made ∙ merged_verdict m R w d s (Ok new) met ∙ sym (merging_then (Ok (Apart base first second)) q);
+          as_defined = oq ∙ ap (λ n. Ok (VersionMade n)) made ∙ merged_verdict m R w d s (Ok new) met ∙ sym (merging_then (Ok (Apart base first second)) q);
           held = held_as (advance w (Merge d s)) (set k.values (length w.versions) new)
               (p ∙ ap (follow w (Act (Merge d s))) oq ∙ ap (λ (t : Bool). advances w (cond t [] (Merge d s ∷ []))) a.0)
               (ap (λ (z : Memory A). z.values) kq ∙ ap (λ n. set k.values n new) made)

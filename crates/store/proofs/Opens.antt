@@ -1,5 +1,5 @@
 -- The opened store.
-use Rattle.std.proofs.Common.{◌≡◌, ℕ, zero, suc, ◌+◌, ◌<◌, ◌≤◌, true, List, [], ◌∷◌, length, take, set, replicate, sym, refl, ap, ◌∙◌, subst, arith}
+use Rattle.std.proofs.Common.{◌≡◌, ℕ, zero, suc, ◌<◌, ◌≤◌, true, List, [], ◌∷◌, length, take, set, replicate, sym, refl, ap, ◌∙◌, subst, arith}
 use Rattle.std.proofs.lemmas.List.{take_more_set}
 use Rattle.kinds.specs.Events.{Event, nothing, pick}
 use Rattle.kinds.specs.Meaning.{Meaning, Known}
@@ -7,7 +7,7 @@ use Rattle.kinds.proofs.Picks.{in_none, pick_none}
 use Rattle.calls.specs.declared.calls.Step.{Step}
 use Rattle.calls.specs.declared.calls.Version.{Version}
 use Rattle.calls.specs.World.{World, opened}
-use Rattle.store.specs.Held.{Held, Memory, Valued, FirstWritten}
+use Rattle.store.specs.Held.{Held, Valued, FirstWritten}
 use Rattle.calls.specs.Counts.{total, record_of, records_of}
 use Rattle.calls.specs.Run.{all_possible}
 use Rattle.store.specs.Book.{Book, actions, told, world, blank, resized}

@@ -1,5 +1,5 @@
 -- What the calls of a store owe, from what their parts give.
-use Rattle.std.proofs.Common.{◌≡◌, ℕ, ◌+◌, ◌<◌, ◌≤◌, Bool, true, false, cond, List, [], ◌∷◌, ◌++◌, length, get_or, ℤ, Ok, Err, Result, sym, refl, ap, ◌∙◌, subst, ap₂, append-nil, arith}
+use Rattle.std.proofs.Common.{◌≡◌, ℕ, ◌<◌, true, List, [], ◌∷◌, ◌++◌, length, get_or, ℤ, Ok, Err, Result, sym, refl, ap, ◌∙◌, subst, ap₂, append-nil, arith}
 use Rattle.std.proofs.lemmas.Bool.{cond-true, cond-false}
 use Rattle.kinds.specs.Events.{Event}
 use Rattle.kinds.specs.Meaning.{Meaning}
@@ -18,12 +18,12 @@ use Rattle.calls.specs.declared.calls.Reply.TheVariants.{Branch, Version, Change
 use Rattle.calls.specs.declared.fault.StoreFault.{StoreFault}
 use Rattle.calls.specs.declared.fault.StoreFault.TheVariants.{OfKind}
 use Rattle.store.specs.declared.store.Store.{Store}
-use Rattle.calls.specs.World.{World, opened, seen_by, inside, lowest}
+use Rattle.calls.specs.World.{opened, seen_by, inside, lowest}
 use Rattle.calls.specs.Outcome.{Outcome, forking, asking, changing, merging}
 use Rattle.calls.specs.Run.{follow, advances, step_of}
 use Rattle.store.specs.Book.{actions}
-use Rattle.store.specs.Held.{Memory, Held}
-use Rattle.store.specs.Attempt.{past, Reads, next_stamp, after_fork, after_action, ForkTried, ChangeTried, MergeTried, AskTried, Tried, Attempted, Kept, answered, replied, Settled}
+use Rattle.store.specs.Held.{Memory}
+use Rattle.store.specs.Attempt.{past, Reads, next_stamp, after_fork, after_action, ForkTried, ChangeTried, MergeTried, AskTried, Tried, Attempted, replied, Settled}
 use Rattle.store.specs.Views.{memory}
 use Rattle.calls.proofs.Worlds.{both}
 use Rattle.calls.proofs.Questions.{lowest_same}

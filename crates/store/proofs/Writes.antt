@@ -1,14 +1,13 @@
 -- What a write leaves in a ledger.
-use Rattle.std.proofs.Common.{◌≡◌, ℕ, zero, suc, ◌+◌, ◌-◌, ◌<◌, ◌≤◌, max, Bool, true, false, cond, ◌&&◌, eqb, ltb, ◌≢◌, List, [], ◌∷◌, ◌++◌, map, length, get_or, take, set, sym, refl, ap, ◌∙◌, subst, ap₂, ⊎_elim, arith, length-set}
+use Rattle.std.proofs.Common.{◌≡◌, ℕ, zero, suc, ◌+◌, ◌<◌, ◌≤◌, max, true, ltb, ◌≢◌, List, [], ◌∷◌, ◌++◌, length, get_or, take, set, sym, refl, ap, ◌∙◌, subst, ap₂, ⊎_elim, arith, length-set}
 use lib.ListN.{length-map}
-use Rattle.std.proofs.lemmas.List.{take_more_set, take-set, map_push, length_push, get_or-set_same, get_or-set_other, get_or_push, get_or_past, ext_get_or}
-use Rattle.std.proofs.lemmas.Bool.{and_from, lt-ltb, cases_eq, cases_lt, eq-eqb, ne_eqb}
+use Rattle.std.proofs.lemmas.List.{take_more_set, map_push, length_push, get_or-set_same, get_or-set_other, get_or_push, ext_get_or}
+use Rattle.std.proofs.lemmas.Bool.{and_from, lt-ltb, cases_eq, ne_eqb}
 use Rattle.std.proofs.lemmas.Bool.Decides.{nat_tests}
 use Rattle.kinds.specs.Events.{Seen, Event, joined, nothing}
 use Rattle.kinds.specs.declared.calls.Change as kind
 use Rattle.calls.specs.declared.calls.Action.{Action}
 use Rattle.calls.specs.declared.calls.Action.TheVariants.{Fork, Change, Merge}
-use Rattle.calls.specs.declared.calls.Step.{Step}
 use Rattle.calls.specs.declared.calls.Version.{Version}
 use Rattle.store.specs.declared.store.Store.{Store}
 use Rattle.calls.specs.World.{World, advance, opened, seen_by, with_event, next_event}
@@ -21,7 +20,7 @@ use Rattle.store.specs.Views.{book, memory, record_at}
 use Rattle.calls.proofs.Prefixes.{one_more}
 use Rattle.calls.proofs.Worlds.{Sound, sound_advance}
 use Rattle.calls.proofs.Questions.{count_is, tally_joined, tally_change, tally_small, records_kept}
-use Rattle.store.proofs.Books.{actions_more, told_more, still_possible, sound_of, made_of, branches_of, head_at, head_below, head_count}
+use Rattle.store.proofs.Books.{actions_more, told_more, still_possible, sound_of, made_of, branches_of, head_below, head_count}
 
 take_set_below : {A : Type 0} (n : ℕ) (l : List A) (i : ℕ) (a : A) → take n (set l i a) ≡ set (take n l) i a
 take_set_below zero [] i a = refl

@@ -19,7 +19,7 @@ use Rattle.calls.specs.declared.fault.StoreFault.TheVariants.{OfKind}
 use Rattle.calls.specs.World.{World, opened}
 use Rattle.calls.specs.Outcome.{Outcome, forking, asking, changing, merging, outcome}
 use Rattle.calls.specs.Run.{Log, follow, after, step_of, steps_of}
-use Rattle.store.specs.Book.{Book, Recorded, actions, world, forked, appended}
+use Rattle.store.specs.Book.{Recorded, actions, world, forked, appended}
 use Rattle.store.specs.Held.{Memory, Held}
 
 -- what is seen, as the steps in memory tell it

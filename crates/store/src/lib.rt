@@ -1,4 +1,6 @@
 // A store of versions and branches, in memory that the caller lends, for every kind of value.
+#![tactic(auto)]
+
 mod counts;
 mod store;
 

@@ -12,7 +12,7 @@ use kinds::{Kind, Question};
 impl<'a, K: Kind> Store<'a, K> {
     // Answers a question on what a branch has seen.
     pub fn ask(&self, branch: u8, question: Question) -> Result<i64, StoreFault>
-        ensures { Attempted meaning represents (memory self.now) (Ask branch question) (replied Answer result) (memory self.now) }
+        ensures { Attempted K.meaning K.represents (memory self.now) (Ask branch question) (replied Answer result) (memory self.now) }
     {
         let head = self.head(branch)?;
         let value = self.value(head);

@@ -1,6 +1,6 @@
 // Changes.
 ghost use Rattle.std.specs.Prelude.{ℕ, ℤ};
-ghost use Rattle.calls.specs.declared.calls.Action.TheVariants.{Change as Change-of};
+ghost use Rattle.calls.specs.declared.calls.Action.TheVariants.{Change as ChangeOf};
 ghost use Rattle.calls.specs.declared.calls.Call.TheVariants.{Act};
 ghost use Rattle.calls.specs.declared.calls.Reply.TheVariants.{Changed};
 ghost use Rattle.store.specs.Attempt.{Attempted, replied};
@@ -13,7 +13,7 @@ use kinds::{Change, Kind};
 impl<'a, K: Kind> Store<'a, K> {
     // Makes a change on a branch, and answers the new version and the kind's reply.
     pub fn change(&mut self, branch: u8, change: Change) -> Result<(u32, i64), StoreFault>
-        ensures { Attempted meaning represents (memory self.old) (Act (Change-of branch change)) (replied (λ (p : ℕ × ℤ). Changed p.0 p.1) result) (memory self.new) }
+        ensures { Attempted K.meaning K.represents (memory self.old) (Act (ChangeOf branch change)) (replied (λ (p : ℕ × ℤ). Changed p.0 p.1) result) (memory self.new) }
     {
         let head = self.head_to_move(branch)?;
         let mut value = self.value(head);

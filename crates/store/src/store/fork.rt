@@ -12,7 +12,7 @@ use kinds::Kind;
 impl<'a, K: Kind> Store<'a, K> {
     // Makes a branch whose head is a stored version, and answers its number.
     pub fn fork(&mut self, version: u32) -> Result<u8, StoreFault>
-        ensures { Attempted meaning represents (memory self.old) (Act (Fork version)) (replied Branch result) (memory self.new) }
+        ensures { Attempted K.meaning K.represents (memory self.old) (Act (Fork version)) (replied Branch result) (memory self.new) }
     {
         self.branch_off(version)
     }

@@ -1,7 +1,7 @@
 // Merges.
 ghost use Rattle.calls.specs.declared.calls.Action.TheVariants.{Merge};
 ghost use Rattle.calls.specs.declared.calls.Call.TheVariants.{Act};
-ghost use Rattle.calls.specs.declared.calls.Reply.TheVariants.{Version as Version-made};
+ghost use Rattle.calls.specs.declared.calls.Reply.TheVariants.{Version as VersionMade};
 ghost use Rattle.store.specs.Attempt.{Attempted, replied};
 ghost use Rattle.store.specs.Views.{memory};
 
@@ -12,7 +12,7 @@ use kinds::Kind;
 impl<'a, K: Kind> Store<'a, K> {
     // Adds to a branch all that another has seen, and answers the new version, or the head if there is nothing to add.
     pub fn merge(&mut self, into: u8, from: u8) -> Result<u32, StoreFault>
-        ensures { Attempted meaning represents (memory self.old) (Act (Merge into from)) (replied Version-made result) (memory self.new) }
+        ensures { Attempted K.meaning K.represents (memory self.old) (Act (Merge into from)) (replied VersionMade result) (memory self.new) }
     {
         let (base, first, second) = match self.meet(into, from)? {
             Meeting::Seen(head) => return Ok(head as u32),

@@ -16,7 +16,7 @@ impl<'a, K: Kind> Store<'a, K> {
     ) -> Store<'a, K>
         ensures size { Greatest (length versions.old) (length values.old) (length steps.old) result.usable }
         ensures written { Opened (lent result.usable versions.old values.old steps.old) (memory result) }
-        ensures held { Held meaning represents (memory result) }
+        ensures held { Held K.meaning K.represents (memory result) }
     {
         let usable = 4096
             .min(versions.len())
@@ -40,7 +40,7 @@ impl<'a, K: Kind> Store<'a, K> {
     // Brings the store back to its opening, in the same memory.
     pub fn reopen(&mut self)
         ensures written { Opened (memory self.old) (memory self.new) }
-        ensures held { Held meaning represents (memory self.new) }
+        ensures held { Held K.meaning K.represents (memory self.new) }
     {
         let usable = self.usable();
         self.reset(usable);
@@ -50,7 +50,7 @@ impl<'a, K: Kind> Store<'a, K> {
     fn reset(&mut self, usable: usize)
         requires { (usable ≤ 4096) × ((usable ≤ length self.old.versions.now) × ((usable ≤ length self.old.values.now) × ((0 < usable → usable + 14 ≤ length self.old.steps.now)))) }
         ensures written { Opened (resized_memory (memory self.old) usable) (memory self.new) }
-        ensures held { Held meaning represents (memory self.new) }
+        ensures held { Held K.meaning K.represents (memory self.new) }
     {
         self.usable = 0;
         self.made = 0;

@@ -11,7 +11,7 @@ use kinds::Kind;
 
 impl<'a, K: Kind> Store<'a, K> {
     pub fn act(&mut self, action: Action) -> Result<Reply, StoreFault>
-        ensures { Attempted meaning represents (memory self.old) (Act action) result (memory self.new) }
+        ensures { Attempted K.meaning K.represents (memory self.old) (Act action) result (memory self.new) }
     {
         match action {
             Action::Fork(version) => Ok(Reply::Branch(self.fork(version)?)),
@@ -24,7 +24,7 @@ impl<'a, K: Kind> Store<'a, K> {
     }
 
     pub fn attempt(&mut self, call: Call) -> Result<Reply, StoreFault>
-        ensures { Attempted meaning represents (memory self.old) call result (memory self.new) }
+        ensures { Attempted K.meaning K.represents (memory self.old) call result (memory self.new) }
     {
         match call {
             Call::Act(action) => self.act(action),
@@ -36,8 +36,8 @@ impl<'a, K: Kind> Store<'a, K> {
     // carries the law of a run.
     pub fn run(&mut self, calls: &[Call], outcomes: &mut [Result<Reply, StoreFault>]) -> usize
         ensures number { result ≡ min (length calls.now) (length outcomes.old) }
-        ensures lawful { Lawful meaning self.old.usable (log_of (take result calls.now) (take result outcomes.new)) }
-        ensures ran { Ran meaning represents (memory self.old) (log_of (take result calls.now) (take result outcomes.new)) (memory self.new) }
+        ensures lawful { Lawful K.meaning self.old.usable (log_of (take result calls.now) (take result outcomes.new)) }
+        ensures ran { Ran K.meaning K.represents (memory self.old) (log_of (take result calls.now) (take result outcomes.new)) (memory self.new) }
         ensures rest { drop result outcomes.new ≡ drop result outcomes.old }
     {
         self.reopen();

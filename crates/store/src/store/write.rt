@@ -1,6 +1,6 @@
 // What an accepted call writes.
 ghost use Rattle.std.specs.Prelude.{◌≡◌, ℕ, ◌+◌, ◌<◌, length};
-ghost use Rattle.calls.specs.declared.calls.Action.TheVariants.{Change as Change-of, Merge};
+ghost use Rattle.calls.specs.declared.calls.Action.TheVariants.{Change as ChangeOf, Merge};
 ghost use Rattle.store.specs.Book.{Appends, world};
 ghost use Rattle.calls.specs.Outcome.{forking};
 ghost use Rattle.store.specs.Attempt.{Settled, after_action, after_fork};
@@ -41,7 +41,7 @@ impl<'a, K: Copy> Store<'a, K> {
     pub(super) fn add_change(&mut self, branch: u8, change: Change, value: K) -> usize
         requires { (branch < self.old.branches) × (self.old.made < self.old.usable) }
         ensures number { result ≡ self.old.made }
-        ensures written { memory self.new ≡ after_action (memory self.old) (Change-of branch change) branch value }
+        ensures written { memory self.new ≡ after_action (memory self.old) (ChangeOf branch change) branch value }
     {
         let head = self.heads[branch as usize] as usize;
         let counts = counts::more(self.counts(head), branch as usize);

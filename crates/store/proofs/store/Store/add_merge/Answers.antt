@@ -1,4 +1,3 @@
-use Rattle.std.proofs.Common.{rules}
 use Rattle.store.proofs.Books.{head_below}
 use Rattle.store.proofs.Writes.{merge_appends}
 use Rattle.store.proofs.store.Store.add_merge.Goals as goal

@@ -4,5 +4,5 @@ use Rattle.store.proofs.store.Store.fork.Goals as goal
 
 pub returns : goal.returns
 returns g c =
-    fork_attempted g.K.Kind.meaning g.K.Kind.represents c.args.self.now c.args.version c.branch-off.result (memory c.branch-off.new.self)
-    c.branch-off.ensures.result c.branch-off.ensures.written
+    fork_attempted g.K.Kind.meaning g.K.Kind.represents c.args.self.now c.args.version c.branch_off.result (memory c.branch_off.new.self)
+    c.branch_off.ensures.result c.branch_off.ensures.written

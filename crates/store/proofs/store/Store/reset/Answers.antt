@@ -1,77 +1,47 @@
-use Rattle.std.proofs.Common.{set, replicate, refl, arith, length-set, rules}
+use Rattle.std.proofs.Common.{set, replicate, refl, arith, length-set}
 use Rattle.store.specs.Views.{book}
 use Rattle.store.proofs.Opens.{root_possible, root_recorded, root_standing, root_numbered, root_book, root_held, none_recorded, none_standing, none_numbered, none_book, none_held, first_written, none_written}
 use Rattle.store.proofs.store.Store.reset.Goals as goal
 
-pub invariant-of-self-then-usable-gt0 : goal.invariant-of-self-then-usable-gt0
-invariant-of-self-then-usable-gt0 g c =
-    let s = c.args.self.now in (
-      omega arith,
-      (
-        s.sixteen,
-        (
-          omega arith,
-          (
-            omega arith,
-            (
-              (λ u. absurd (omega arith)),
-              (
-                omega arith,
-                (
-                  omega arith,
-                  (
-                    omega arith,
-                    (
-                      (λ u. absurd (omega arith)),
-                      (root_possible 0 s.steps.now, (none_recorded (set s.versions.now 0 (record { counts = replicate 16 0 })) s.steps.now, (none_standing s.heads s.steps.now, (none_numbered s.steps.now, tt)))),
-                    ),
-                  ),
-                ),
-              ),
-            ),
-          ),
-        ),
-      ),
-    )
+pub invariant_of-self-then-usable-gt0 : goal.invariant_of-self-then-usable-gt0
+invariant_of-self-then-usable-gt0 g c =
+    let s = c.args.self.now in
+    record {
+      small = omega arith;
+      sixteen = s.sixteen;
+      versioned = omega arith;
+      valued = omega arith;
+      stepped = λ u. absurd (omega arith);
+      within = omega arith;
+      few = omega arith;
+      fewer = omega arith;
+      counted = λ u. absurd (omega arith);
+      possible = root_possible 0 s.steps.now;
+      recorded = none_recorded (set s.versions.now 0 (record { counts = replicate 16 0 })) s.steps.now;
+      standing = none_standing s.heads s.steps.now;
+      numbered = none_numbered s.steps.now;
+    }
 
-pub invariant-of-self-then-usable-gt0-2 : goal.invariant-of-self-then-usable-gt0-2
-invariant-of-self-then-usable-gt0-2 g c =
+pub invariant_of-self-then-usable-gt0-2 : goal.invariant_of-self-then-usable-gt0-2
+invariant_of-self-then-usable-gt0-2 g c =
     let s = c.args.self.now in
     let V = c.args.usable in
-    let some = c.if-usable-gt0.true in (
-      c.requires.0,
-      (
-        simp length-set s.sixteen,
-        (
-          simp length-set c.requires.1.0,
-          (
-            simp length-set c.requires.1.1.0,
-            (
-              c.requires.1.1.1,
-              (
-                omega (arith, c.if-usable-gt0.true),
-                (
-                  omega arith,
-                  (
-                    omega arith,
-                    (
-                      (λ u. omega arith),
-                      (
-                        root_possible V s.steps.now,
-                        (
-                          root_recorded V s.versions.now s.steps.now some (omega (arith, c.if-usable-gt0.true, c.requires.1.0)),
-                          (root_standing V s.heads s.steps.now some (omega (arith, s.sixteen)), (root_numbered V s.steps.now some, tt)),
-                        ),
-                      ),
-                    ),
-                  ),
-                ),
-              ),
-            ),
-          ),
-        ),
-      ),
-    )
+    let some = c.if-usable-gt0.true in
+    record {
+      small = c.requires.0;
+      sixteen = simp length-set s.sixteen;
+      versioned = simp length-set c.requires.1.0;
+      valued = simp length-set c.requires.1.1.0;
+      stepped = c.requires.1.1.1;
+      within = omega (arith, c.if-usable-gt0.true);
+      few = omega arith;
+      fewer = omega arith;
+      counted = λ u. omega arith;
+      possible = root_possible V s.steps.now;
+      recorded = root_recorded V s.versions.now s.steps.now some (omega (arith, c.if-usable-gt0.true, c.requires.1.0));
+      standing = root_standing V s.heads s.steps.now some (omega (arith, s.sixteen));
+      numbered = root_numbered V s.steps.now some;
+    }
 
 pub returns-then-usable-gt0 : goal.returns-then-usable-gt0
 returns-then-usable-gt0 g c =
