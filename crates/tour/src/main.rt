@@ -1,5 +1,7 @@
 // Follows a build team's task from beginning to end, as two lists of calls that are run on a store of counts: a merge of what was done
 // apart, and one that is refused until there is a version to merge from.
+#![tactic(auto)]
+
 use calls::{Call, Reply, Step, StoreFault, Version};
 use kinds::{Counter, Kind};
 use std::alloc::{AllocError, Global};
