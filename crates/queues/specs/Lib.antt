@@ -1,4 +1,4 @@
--- What the contracts of the queue cite.
+-- What the contracts of the queue cite: Queue and Line. The others are lemmas, which the proof of its law cites.
 pub mod Queue
 pub mod Line
 pub mod Calls

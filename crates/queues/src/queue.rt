@@ -1,7 +1,7 @@
 // The queue: a put waits after all that wait, and a take takes the first.
 ghost use Rattle.std.specs.Prelude.{◌≡◌, pos, Ok, nat_lt};
-ghost use Rattle.queues.specs.Line.{Put, Represents, Take, first_item, item_put, live as live-rows};
-ghost use Rattle.queues.specs.Queue.{asks as asks_of, queue as queue-meaning, takes as Takes-of};
+ghost use Rattle.queues.specs.Line.{Put, Represents, Take, first_item, item_put, live as live_rows};
+ghost use Rattle.queues.specs.Queue.{asks as asks_of, queue as queue_meaning, takes as takes_of};
 ghost use Rattle.queues.specs.Calls;
 
 use crate::wait::{EMPTY_WAIT, Wait};
@@ -31,7 +31,7 @@ fn put_item(change: Change) -> Option<u16>
 }
 
 fn takes(change: Change) -> bool
-    ensures { result ≡ Takes-of change }
+    ensures { result ≡ takes_of change }
 {
     change.place == 0 && change.verb == 2 && change.argument == 0
 }
@@ -68,7 +68,7 @@ impl Queue {
 
     // The rows of those that wait.
     fn live(&self) -> &[Wait]
-        ensures { result.now ≡ live-rows self.now }
+        ensures { result.now ≡ live_rows self.now }
     {
         if self.overfull() {
             &[]
@@ -111,7 +111,7 @@ impl Kind for Queue {
 
     ghost number = { 3 };
 
-    ghost meaning = { queue-meaning };
+    ghost meaning = { queue_meaning };
 
     ghost represents = { Represents };
 

@@ -1,7 +1,7 @@
 -- Rows that rise by key, and the row at a key.
-use Rattle.std.proofs.Common.{◌≡◌, ℕ, Bool, true, false, cond, ◌&&◌, ◌⊎◌, List, [], ◌∷◌, Some, None, Option, Ordering, Less, sym, refl, ap, ◌∙◌, subst, inl, inr, arith}
+use Rattle.std.proofs.Common.{◌≡◌, ℕ, true, false, ◌&&◌, ◌⊎◌, List, [], ◌∷◌, Some, None, Option, Ordering, Less, sym, refl, ap, ◌∙◌, subst, inl, inr, arith}
 use Rattle.std.proofs.lemmas.Bool.{and_parts, and_from}
-use Rattle.std.specs.Ordering.{is_eq, is_lt}
+use Rattle.std.specs.Ordering.{is_lt}
 use Rattle.rows.specs.Keys.{Total}
 use Rattle.rows.specs.Rows.{find, over, rises_over}
 use Rattle.rows.specs.KeysLemmas as keys
@@ -48,13 +48,13 @@ module _ {K R : Type 0} (order : K → K → Ordering) (key : R → K) where
   module _ (total : Total order) where
     pub less_over : (m : Option K) (q k : K) → over order m q ≡ true → order q k ≡ Less → over order m k ≡ true
     less_over None q k h l = refl
-    less_over (Some p) q k h l = ap is_lt (total.through p q k (keys.is-less (order p q) h) l)
+    less_over (Some p) q k h l = ap is_lt (total.through p q k (keys.is_less (order p q) h) l)
 
     -- a lower bound, or none at all
     pub rises_lower : (m : Option K) (q : K) (xs : List R) → over order m q ≡ true → rises_over order key (Some q) xs ≡ true → rises_over order key m xs ≡ true
     rises_lower m q [] h e = rises_none m
     rises_lower m q (x ∷ xs) h e =
-        rises_make m x xs (less_over m q (key x) h (keys.is-less (order q (key x)) (rises_first (Some q) x xs e))) (rises_rest (Some q) x xs e)
+        rises_make m x xs (less_over m q (key x) h (keys.is_less (order q (key x)) (rises_first (Some q) x xs e))) (rises_rest (Some q) x xs e)
 
     pub find_here : (x : R) (xs : List R) → find order key (key x) (x ∷ xs) ≡ Some x
     unfolding find
@@ -71,7 +71,7 @@ module _ {K R : Type 0} (order : K → K → Ordering) (key : R → K) where
     pub find_below : (k m : K) (xs : List R) → rises_over order key (Some m) xs ≡ true → (order m k ≡ Less → ⊥) → find order key k xs ≡ None
     find_below k m [] e h = find_none k
     find_below k m (x ∷ xs) e h =
-        let p : order m (key x) ≡ Less = keys.is-less (order m (key x)) (rises_first (Some m) x xs e) in
+        let p : order m (key x) ≡ Less = keys.is_less (order m (key x)) (rises_first (Some m) x xs e) in
         find_next k x xs (λ (q : key x ≡ k). h (subst (λ z. order m z ≡ Less) q p))
         ∙ find_below k (key x) xs (rises_rest (Some m) x xs e) (λ l. h (total.through m (key x) k p l))
 
@@ -93,7 +93,7 @@ module _ {K R : Type 0} (order : K → K → Ordering) (key : R → K) where
             (λ l. let d : key x ≡ k → ⊥ = keys.less_apart order total (key x) k l in
             sym (find_next k x xs d) ∙ h k ∙ find_next k y ys (λ (z : key y ≡ k). d (c ∙ z)))
             (λ l. at (λ (z : order (key x) k ≡ Less). keys.less_equal (order (key x) k) z l))
-            (λ l. at (λ (z : order (key x) k ≡ Less). keys.less-greater (order (key x) k) z l))
+            (λ l. at (λ (z : order (key x) k ≡ Less). keys.less_greater (order (key x) k) z l))
           where
             at : (order (key x) k ≡ Less → ⊥) → find order key k xs ≡ find order key k ys
             at u = find_below k (key x) xs (rises_rest m x xs e) u

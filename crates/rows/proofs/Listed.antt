@@ -1,9 +1,9 @@
 -- Lists of events: what passes a test, what a history with one event more holds, and the rows that events stand for.
-use Rattle.std.proofs.Common.{◌≡◌, ℕ, ◌<◌, ◌≤◌, Bool, true, false, cond, ◌&&◌, ◌||◌, ltb, ◌⊎◌, List, [], ◌∷◌, ◌++◌, map, Some, None, filter, Option, Ordering, sym, refl, ap, ◌∙◌, subst, inl, inr, ⊎_elim, arith, le-ltb, lt-ltb}
+use Rattle.std.proofs.Common.{◌≡◌, ◌<◌, Bool, true, false, cond, ltb, List, [], ◌∷◌, ◌++◌, map, Some, None, filter, Ordering, sym, refl, ap, ◌∙◌, inl, inr, arith, le-ltb, lt-ltb}
 use borrow.Author.Tests.{clash}
 use Rattle.std.proofs.lemmas.Bool.{both_ways, or_cases, or_parts, or_left, or_right}
 use Rattle.kinds.specs.Events.{Event, Seen, In, Rising, pick}
-use Rattle.kinds.proofs.Picks.{by_bool, in_cons, in_none, pick_none, pick_yes, pick_no}
+use Rattle.kinds.proofs.Picks.{in_cons, in_none, pick_none, pick_yes, pick_no}
 use Rattle.rows.specs.Keys.{Total}
 use Rattle.rows.specs.Rows.{find}
 use Rattle.rows.specs.Lists.{any}

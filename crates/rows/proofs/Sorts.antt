@@ -1,12 +1,12 @@
 -- Rows that are put in the order of their keys, and rows that pass a test.
-use Rattle.std.proofs.Common.{◌≡◌, ℕ, suc, Bool, true, false, cond, ◌||◌, ◌⊎◌, List, [], ◌∷◌, length, Some, None, filter, Option, Ordering, Less, Equal, Greater, sym, refl, ap, ◌∙◌, subst, inl, inr}
+use Rattle.std.proofs.Common.{◌≡◌, suc, Bool, true, false, cond, ◌||◌, ◌⊎◌, List, [], ◌∷◌, length, Some, None, filter, Option, Ordering, Less, Equal, Greater, sym, refl, ap, ◌∙◌, inl, inr}
 use Rattle.std.specs.Ordering.{is_eq, is_lt, is_le}
 use Rattle.rows.specs.Keys.{Total}
 use Rattle.rows.specs.Lists.{any}
 use Rattle.rows.specs.Rows.{find, over, rises_over, rises}
 use Rattle.rows.specs.Sorted.{insert, sorted}
 use Rattle.rows.specs.KeysLemmas as keys
-use Rattle.rows.proofs.Finds.{none_some, rises_none, rises_first, rises_rest, rises_make, rises_lower, find_none, find_here, find_first, find_next, find_below}
+use Rattle.rows.proofs.Finds.{none_some, rises_none, rises_first, rises_rest, rises_make, rises_lower, find_none, find_first, find_next, find_below}
 
 or_swap : (a b c : Bool) → (a || (b || c)) ≡ (b || (a || c))
 or_swap true true c = refl

@@ -1,5 +1,5 @@
 -- One turn of the join's loop, and its two ends, by what its calls gave.
-use Rattle.std.proofs.Common.{◌≡◌, ℕ, suc, ◌+◌, ◌<◌, ◌≤◌, Bool, true, false, cond, leb, List, [], ◌∷◌, ◌++◌, length, take, drop, set, Some, None, Option, Ordering, sym, refl, ap, ◌∙◌, subst, append_assoc, append-nil, arith, length-append, length-set, le-leb, leb-false, leb-true}
+use Rattle.std.proofs.Common.{◌≡◌, ℕ, ◌+◌, ◌<◌, ◌≤◌, Bool, true, false, cond, leb, List, [], ◌∷◌, ◌++◌, length, take, drop, set, Some, None, Option, Ordering, sym, refl, ap, ◌∙◌, append_assoc, append-nil, arith, length-append, length-set, le-leb, leb-false, leb-true}
 use borrow.Author.Tests.{lt-leb}
 use Rattle.std.proofs.lemmas.List.{take_more_set, take-append-drop, take_all, take-append-le, take-take, take_at, length-take-le, drop-drop, drop-set-lt}
 use Rattle.rows.specs.Keys.{Total}

@@ -1,11 +1,11 @@
 -- The walk of a join over three rising lists gives the rows of the join.
-use Rattle.std.proofs.Common.{◌≡◌, ℕ, zero, suc, ◌+◌, ◌<◌, ◌≤◌, Bool, true, false, cond, ◌⊎◌, List, [], ◌∷◌, ◌++◌, length, Some, None, Option, Ordering, Less, Equal, Greater, sym, refl, ap, ◌∙◌, subst, inl, inr, arith}
+use Rattle.std.proofs.Common.{◌≡◌, ℕ, zero, suc, ◌+◌, ◌<◌, ◌≤◌, Bool, true, false, cond, ◌⊎◌, List, [], ◌∷◌, length, Some, None, Option, Ordering, Less, Equal, Greater, sym, refl, ap, ◌∙◌, subst, inl, inr, arith}
 use Rattle.std.specs.Ordering.{is_eq, is_lt, is_le}
 use Rattle.rows.specs.Keys.{Total}
 use Rattle.rows.specs.Rows.{find, over, rises_over, rises, alike, or_else, outcome, Joined}
 use Rattle.rows.specs.Walk.{head_key, lower, lowest, at_key, past, put, walk, walked}
 use Rattle.rows.specs.KeysLemmas as keys
-use Rattle.rows.proofs.Finds.{none_some, some_same, rises_none, rises_first, rises_rest, rises_make, rises_lower, find_none, find_here, find_first, find_next, find_below, rising_same}
+use Rattle.rows.proofs.Finds.{none_some, some_same, rises_none, rises_first, rises_rest, rises_make, rises_lower, find_first, find_next, find_below, rising_same}
 
 module _ {K : Type 0} (order : K → K → Ordering) (total : Total order) where
   -- the key q is not above one that may be there
@@ -30,7 +30,7 @@ module _ {K : Type 0} (order : K → K → Ordering) (total : Total order) where
       go : (o : Ordering) → order x y ≡ o → Low (Some x) (Some y) (cond (is_le o) (Some x) (Some y))
       go Less e = (under_itself x, (λ l. keys.less_back order total x y e l), inl refl)
       go Equal e = (under_itself x, (λ l. keys.less_apart order total y x l (sym (total.level x y e))), inl refl)
-      go Greater e = ((λ l. keys.less-greater (order x y) l e), under_itself y, inr refl)
+      go Greater e = ((λ l. keys.less_greater (order x y) l e), under_itself y, inr refl)
 
   -- and of three
   abbrev Lowest : Option K → Option K → Option K → Option K → Type 0

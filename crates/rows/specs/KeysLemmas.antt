@@ -1,12 +1,12 @@
 -- What follows from a total order of keys.
-use Rattle.std.specs.Prelude.{◌≡◌, ℕ, ◌<◌, Bool, true, false, cond, ◌⊎◌, ◌==◌, ◌≢◌, refl}
+use Rattle.std.specs.Prelude.{◌≡◌, ℕ, ◌<◌, true, false, cond, ◌⊎◌, ◌==◌, ◌≢◌, refl}
 use Rattle.std.specs.declared.cmp.Ordering.TheVariants.{Less, Equal, Greater}
 use Rattle.std.specs.declared.cmp.Ordering.{Ordering}
 use Rattle.std.proofs.Common.{sym, subst, ◌∙◌, inl, inr, arith}
 use Rattle.std.proofs.Math.Path.{ap}
 use borrow.Author.Tests.{clash, lt-ltb, le-ltb, eq-eqb, ne_eqb}
 use Rattle.std.proofs.lemmas.Bool.{cases_order}
-use Rattle.std.specs.Ordering.{ordering_reverse, ordering_then, is_eq, is_lt, is_le}
+use Rattle.std.specs.Ordering.{ordering_reverse, ordering_then, is_eq, is_lt}
 use Rattle.rows.specs.Keys.{Total, by_number}
 
 -- no comparison has two answers

@@ -8,7 +8,7 @@ use std::cmp::Ordering;
 
 // The key of the row at a place, if there is one.
 fn head<R: Row>(rows: &[R], at: usize) -> Option<R::Key>
-    ensures { result ≡ head_key key (drop at rows.now) }
+    ensures { result ≡ head_key R.key (drop at rows.now) }
 {
     if at < rows.len() {
         Some(rows[at].key_of())
@@ -18,7 +18,7 @@ fn head<R: Row>(rows: &[R], at: usize) -> Option<R::Key>
 }
 
 fn lower<K: Key>(a: Option<K>, b: Option<K>) -> Option<K>
-    ensures { result ≡ lower_of order a b }
+    ensures { result ≡ lower_of K.order a b }
 {
     match (a, b) {
         (None, b) => b,
@@ -39,8 +39,8 @@ struct Turn<R> {
 
 fn taken<R: Row>(rows: &[R], at: usize, low: R::Key) -> Turn<R>
     requires { at ≤ length rows.now }
-    ensures row { result.row ≡ at_key R.Key.Key.order key low (drop at rows.now) }
-    ensures rest { drop result.next rows.now ≡ past R.Key.Key.order key low (drop at rows.now) }
+    ensures row { result.row ≡ at_key R.Key.order R.key low (drop at rows.now) }
+    ensures rest { drop result.next rows.now ≡ past R.Key.order R.key low (drop at rows.now) }
     ensures within { result.next ≤ length rows.now }
 {
     if at >= rows.len() {
@@ -63,7 +63,7 @@ fn taken<R: Row>(rows: &[R], at: usize, low: R::Key) -> Turn<R>
 }
 
 fn alike<R: Row>(a: Option<R>, b: Option<R>) -> bool
-    ensures { result ≡ same_rows same a b }
+    ensures { result ≡ same_rows R.same a b }
 {
     match (a, b) {
         (None, None) => true,
@@ -74,7 +74,7 @@ fn alike<R: Row>(a: Option<R>, b: Option<R>) -> bool
 
 // What the join has where the base has one row, or none, and the two sides have theirs.
 fn chosen<R: Row>(base: Option<R>, first: Option<R>, second: Option<R>) -> Option<R>
-    ensures { result ≡ outcome same base first second }
+    ensures { result ≡ outcome R.same base first second }
 {
     if alike(first, base) {
         return second;
@@ -107,7 +107,7 @@ fn added<R: Row>(out: &mut [R], count: usize, row: Option<R>) -> Option<usize>
 
 // Joins two sides, three-way from their base, into `out`: how many rows there are, or nothing where there are more than `out` has places.
 pub fn join<R: Row>(base: &[R], first: &[R], second: &[R], out: &mut [R]) -> Option<usize>
-    ensures { Joins R.Key.Key.order key same base.now first.now second.now out.old out.new result }
+    ensures { Joins R.Key.order R.key R.same base.now first.now second.now out.old out.new result }
 {
     let mut i = 0;
     let mut j = 0;
@@ -130,7 +130,7 @@ pub fn join<R: Row>(base: &[R], first: &[R], second: &[R], out: &mut [R]) -> Opt
 
 // Whether a key is above the one before it.
 fn follows<K: Key>(before: Option<K>, key: K) -> bool
-    ensures { result ≡ over order before key }
+    ensures { result ≡ over K.order before key }
 {
     match before {
         None => true,
@@ -143,7 +143,7 @@ fn follows<K: Key>(before: Option<K>, key: K) -> bool
 
 // Whether the rows rise strictly by key.
 pub fn rising<R: Row>(rows: &[R]) -> bool
-    ensures { result ≡ rises R.Key.Key.order key rows.now }
+    ensures { result ≡ rises R.Key.order R.key rows.now }
 {
     let mut before = None;
     for row in rows {

@@ -1,4 +1,6 @@
 // Rows with a total order of keys, and the one three-way joining of rows that serves every sort of them.
+#![tactic(auto)]
+
 mod joining;
 mod keyed;
 

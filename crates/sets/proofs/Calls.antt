@@ -1,20 +1,20 @@
 -- What the calls of the set owe, from what its rows are.
-use Rattle.std.proofs.Common.{◌≡◌, ℕ, ◌<◌, ◌≤◌, Bool, true, false, not, ◌&&◌, ◌||◌, eqb, List, [], ◌∷◌, ◌++◌, length, take, ℤ, pos, Some, None, Ok, Err, filter, Result, sym, refl, ap, ◌∙◌, subst, inl, inr, arith, eq-eqb, eqb-true}
+use Rattle.std.proofs.Common.{◌≡◌, ℕ, ◌<◌, ◌≤◌, Bool, true, not, ◌&&◌, ◌||◌, eqb, List, [], ◌∷◌, ◌++◌, length, take, ℤ, pos, Some, None, Ok, Err, filter, Result, sym, refl, ap, ◌∙◌, subst, inl, inr, arith, eq-eqb, eqb-true}
 use Rattle.std.proofs.lemmas.Bool.{and_parts, both_ways, or_cases}
-use Rattle.kinds.specs.Events.{Event, Seen, pick, common, joined}
+use Rattle.kinds.specs.Events.{Event, pick, joined}
 use Rattle.kinds.specs.History.{History, Next}
 use Rattle.kinds.specs.Duties.{Answers, Changed, Changes, Merges, Merged, Stamped}
 use Rattle.kinds.specs.declared.calls.Change.{Change}
 use Rattle.kinds.specs.declared.calls.Question.{Question}
 use Rattle.kinds.specs.declared.calls.Stamp.{Stamp}
 use Rattle.kinds.specs.declared.fault.KindFault.{KindFault}
-use Rattle.kinds.specs.declared.fault.KindFault.TheVariants.{DoesNotFit, UnknownChange, UnknownQuestion}
+use Rattle.kinds.specs.declared.fault.KindFault.TheVariants.{DoesNotFit}
 use Rattle.kinds.proofs.Outcomes.{ok_not_err}
 use Rattle.rows.specs.Lists.{any, natural}
 use Rattle.rows.specs.Walk.{Joins}
 use Rattle.rows.proofs.Turns.{joins_some, joins_none}
 use Rattle.rows.proofs.Walks.{walked_joined}
-use Rattle.sets.specs.Set.{object, is_object, rows, member, bit, object_set}
+use Rattle.sets.specs.Set.{object, is_object, member, bit, object_set}
 use Rattle.sets.specs.Table.{by_object_then_branch, mark_key, same_mark, in_order, join_of, row_of, table}
 use Rattle.sets.specs.Form.{Represents, rows_in}
 use Rattle.sets.specs.declared.marks.Mark.{Mark}
@@ -26,14 +26,11 @@ use Rattle.sets.proofs.Longer.{marked_table, cleared_table, merged_table, too_ma
 -- ---- a value made from what a join wrote
 module _ (x y z before out : List Mark) (long : length before ≡ 96) where
   pub made_ok : (n : ℕ) → in_order x ≡ true → in_order y ≡ true → in_order z ≡ true → Joins by_object_then_branch mark_key same_mark x y z before out (Some n) →
-      ((n ≤ 96) × (in_order (take n out) ≡ true)) × Unit {0}
+      (n ≤ 96) × (in_order (take n out) ≡ true)
   made_ok n px py pz j =
       let l = joins_some by_object_then_branch mark_key same_mark x y z before out n j in (
-        (
-          omega (arith, l.0),
-          subst (λ xs. in_order xs ≡ true) (sym l.1) (walked_joined by_object_then_branch total_keys mark_key same_mark x y z px py pz).rising,
-        ),
-        tt,
+        omega (arith, l.0),
+        subst (λ xs. in_order xs ≡ true) (sym l.1) (walked_joined by_object_then_branch total_keys mark_key same_mark x y z px py pz).rising,
       )
 
   pub made_not : Joins by_object_then_branch mark_key same_mark x y z before out None → 96 < length (join_of x y z)

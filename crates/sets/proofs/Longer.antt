@@ -1,11 +1,11 @@
 -- What a mark and a clear do to the rows, and a merge.
-use Rattle.std.proofs.Common.{◌≡◌, ℕ, ◌<◌, Bool, true, false, cond, not, ◌&&◌, eqb, ◌⊎◌, List, [], ◌∷◌, ◌++◌, length, Some, None, filter, Option, sym, refl, ap, ◌∙◌, subst, inl, inr, arith, lt-ltb, eq-eqb, eqb-true}
+use Rattle.std.proofs.Common.{◌≡◌, ◌<◌, Bool, true, false, cond, not, eqb, ◌⊎◌, List, [], ◌∷◌, ◌++◌, length, Some, None, filter, Option, sym, refl, ap, ◌∙◌, subst, inl, inr, arith, lt-ltb, eq-eqb, eqb-true}
 use borrow.Author.Tests.{eqb-false, lt-leb}
 use Rattle.std.proofs.lemmas.Bool.{and_parts, and_from, both_ways}
 use Rattle.kinds.specs.Events.{Event, Seen, In, pick, common, joined}
 use Rattle.kinds.specs.History.{History, Closed, Next}
-use Rattle.kinds.proofs.Histories.{coherent, in_more, by_last}
-use Rattle.rows.specs.Rows.{find, rises, outcome, Joined}
+use Rattle.kinds.proofs.Histories.{coherent, by_last}
+use Rattle.rows.specs.Rows.{rises, outcome, Joined}
 use Rattle.rows.specs.Walk.{walked}
 use Rattle.rows.specs.KeysLemmas as keys
 use Rattle.rows.proofs.Finds.{find_none, find_first, find_next, rising_same, rises_none, rises_make}

@@ -1,5 +1,5 @@
 -- Which objects are members, read off the rows.
-use Rattle.std.specs.Prelude.{◌≡◌, ℕ, ◌≤◌, Bool, true, false, cond, not, ◌&&◌, ◌||◌, ◌⊎◌, List, [], ◌∷◌, map, length, filter, ◌==◌, nat_eq}
+use Rattle.std.specs.Prelude.{◌≡◌, ℕ, ◌≤◌, Bool, true, false, cond, not, ◌&&◌, ◌||◌, List, [], ◌∷◌, map, length, filter, ◌==◌, nat_eq}
 use Rattle.std.proofs.Math.Path.{refl, subst}
 use Rattle.std.proofs.Common.{sym, ap, ◌∙◌, length-take}
 use Rattle.std.proofs.Math.Logic.{inl, inr}
@@ -8,7 +8,7 @@ use native.Mathlib.Omega.{arith}
 use borrow.Author.Tests.{eqb-true, le-leb, eq-eqb, not-true}
 use Rattle.std.proofs.lemmas.Bool.{and_parts, and_from, both_ways, cases_Bool, cases_lt}
 use Rattle.std.specs.Ordering.{is_eq}
-use Rattle.kinds.specs.Events.{Event, In, Rising, pick}
+use Rattle.kinds.specs.Events.{Event, In, Rising}
 use Rattle.kinds.specs.History.{History}
 use Rattle.kinds.proofs.Picks.{in_cons, in_none}
 use Rattle.rows.specs.Lists.{any}

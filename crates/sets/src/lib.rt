@@ -1,4 +1,6 @@
 // The set as a kind of value: objects that are marked and cleared, where a mark stands until a clear that saw it.
+#![tactic(auto)]
+
 mod marks;
 mod set;
 mod set_kind;

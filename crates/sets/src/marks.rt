@@ -2,7 +2,7 @@
 ghost use Rattle.sets.specs.Table.{by_object_then_branch, mark_key, same_mark};
 ghost use Rattle.sets.specs.Orders.{total_keys, same_true, same_itself};
 
-use rows::{Key, Key as _, Row};
+use rows::{Key, Row};
 use std::cmp::Ordering;
 
 // The key of a row: an object on a branch.

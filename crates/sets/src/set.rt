@@ -3,7 +3,7 @@ ghost use Rattle.std.specs.Prelude.{◌≡◌, ◌<◌, ◌≤◌, true, not, []
 ghost use Rattle.rows.specs.Lists.{any};
 ghost use Rattle.sets.specs.Table.{in_order, join_of};
 
-use crate::marks::{EMPTY_ROW, Key, Mark, SetForm};
+use crate::marks::{EMPTY_ROW, Mark, SetForm};
 use rows::{join, rising};
 
 #[derive(Clone, Copy)]

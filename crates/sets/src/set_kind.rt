@@ -1,6 +1,6 @@
 // The set as a kind: each call checks the plain form, makes the set value, works on that, and writes the plain form back whole.
 ghost use Rattle.std.specs.Prelude.{◌≡◌, true, false, pos, Some, None, Ok};
-ghost use Rattle.sets.specs.Set.{object_set, bit as bit-of};
+ghost use Rattle.sets.specs.Set.{object_set, bit as bit_of};
 ghost use Rattle.sets.specs.Form.{Represents};
 ghost use Rattle.sets.specs.Members;
 
@@ -45,7 +45,7 @@ fn asked(question: Question) -> Option<u16>
 
 // Yes or no, as a reply or an answer.
 fn told(yes: bool) -> Result<i64, KindFault>
-    ensures { result ≡ Ok (bit-of yes) }
+    ensures { result ≡ Ok (bit_of yes) }
 {
     if yes { Ok(1) } else { Ok(0) }
 }

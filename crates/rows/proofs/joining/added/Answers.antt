@@ -1,4 +1,4 @@
-use Rattle.std.proofs.Common.{refl, arith}
+use Rattle.std.proofs.Common.{refl}
 use Rattle.rows.specs.Walk.{nothing, full, more}
 use Rattle.rows.proofs.joining.added.Goals as goal
 

@@ -19,7 +19,7 @@ added-requires g c = c.loop-low.invariant.3
 
 pub loop-low-smaller : goal.loop-low-smaller
 loop-low-smaller g c =
-    turn_less g.Key-as-Key.order g.met.R.Key.Key.total g.R.Row.key g.R.Row.same _ _ _ _ _ _ _
+    turn_less g.R.Key.Key.order g.met.R.Key.Key.total g.R.Row.key g.R.Row.same _ _ _ _ _ _ _
     c.head.ensures c.head-in-loop-low.ensures c.head-in-loop-low-2.ensures c.lower.ensures c.in-Some.low _ _ _ c.in-Some.ensures
     c.taken-l.ensures.rest c.taken-a.ensures.rest c.taken-b.ensures.rest
 
@@ -27,7 +27,7 @@ pub loop-low-preserved : goal.loop-low-preserved
 loop-low-preserved g c =
     let inv = c.loop-low.invariant in
     let add = added_some c.args.out.now c.loop-low.out c.added.new.out c.loop-low.count c.in-Some-added.n c.chosen.result inv.3 inv.4 inv.5 c.in-Some-added.ensures in
-    let t = turn_is g.Key-as-Key.order g.met.R.Key.Key.total g.R.Row.key g.R.Row.same _ _ _ _ _ _ _
+    let t = turn_is g.R.Key.Key.order g.met.R.Key.Key.total g.R.Row.key g.R.Row.same _ _ _ _ _ _ _
     c.head.ensures c.head-in-loop-low.ensures c.head-in-loop-low-2.ensures c.lower.ensures c.in-Some.low _ _ _ c.in-Some.ensures
     c.taken-l.ensures.rest c.taken-a.ensures.rest c.taken-b.ensures.rest
     inv.6.0 _ _ _ _ c.taken-l.ensures.row c.taken-a.ensures.row c.taken-b.ensures.row c.chosen.ensures inv.6.1 in (
@@ -44,17 +44,17 @@ pub returns-in-None : goal.returns-in-None
 returns-in-None g c =
     let inv = c.loop-low.invariant in
     let add = added_none c.loop-low.out c.added.new.out c.loop-low.count c.chosen.result c.in-None.ensures in
-    let t = turn_is g.Key-as-Key.order g.met.R.Key.Key.total g.R.Row.key g.R.Row.same _ _ _ _ _ _ _
+    let t = turn_is g.R.Key.Key.order g.met.R.Key.Key.total g.R.Row.key g.R.Row.same _ _ _ _ _ _ _
     c.head.ensures c.head-in-loop-low.ensures c.head-in-loop-low-2.ensures c.lower.ensures c.in-Some.low _ _ _ c.in-Some.ensures
     c.taken-l.ensures.rest c.taken-a.ensures.rest c.taken-b.ensures.rest
     inv.6.0 _ _ _ _ c.taken-l.ensures.row c.taken-a.ensures.row c.taken-b.ensures.row c.chosen.ensures inv.6.1 in
-    join_full g.Key-as-Key.order g.met.R.Key.Key.total g.R.Row.key g.R.Row.same _ _ _ c.args.out.now c.loop-low.out c.added.new.out c.loop-low.count add.0 c.chosen.result _ _
+    join_full g.R.Key.Key.order g.met.R.Key.Key.total g.R.Row.key g.R.Row.same _ _ _ c.args.out.now c.loop-low.out c.added.new.out c.loop-low.count add.0 c.chosen.result _ _
     inv.3 inv.4 add.2 add.3 add.1 t.2 inv.6.2
 
 pub returns : goal.returns
 returns g c =
     let inv = c.loop-low.invariant in
-    join_done g.Key-as-Key.order g.met.R.Key.Key.total g.R.Row.key g.R.Row.same _ _ _ c.args.out.now c.loop-low.out c.loop-low.count inv.3 inv.4 inv.5 _
-    (turn_end g.Key-as-Key.order g.met.R.Key.Key.total g.R.Row.key g.R.Row.same _ _ _ _ _ _ _
-    c.head.ensures c.head-in-loop-low.ensures c.head-in-loop-low-2.ensures c.lower.ensures inv.6.0 c.in-default.ensures)
+    join_done g.R.Key.Key.order g.met.R.Key.Key.total g.R.Row.key g.R.Row.same _ _ _ c.args.out.now c.loop-low.out c.loop-low.count inv.3 inv.4 inv.5 _
+    (turn_end g.R.Key.Key.order g.met.R.Key.Key.total g.R.Row.key g.R.Row.same _ _ _ _ _ _ _
+    c.head.ensures c.head-in-loop-low.ensures c.head-in-loop-low-2.ensures c.lower.ensures inv.6.0 c.in_default.ensures)
     inv.6.2

@@ -6,7 +6,7 @@ use Rattle.rows.proofs.joining.join.Given as goal
 abbrev pub invariant-loop-low : goal.invariant-loop-low
 invariant-loop-low g l =
     let m = g.R.Row in
-    let o = g.Key-as-Key.order in
+    let o = g.R.Key.Key.order in
     (l.i ≤ length l.base) × (l.j ≤ length l.first) × (l.k ≤ length l.second) × (l.count ≤ length l.out) ×
     (length l.out ≡ length l.initial.out) × (drop l.count l.out ≡ drop l.count l.initial.out) ×
     ((f : ℕ) × (length (drop l.i l.base) + (length (drop l.j l.first) + length (drop l.k l.second)) ≤ f) ×

@@ -9,28 +9,28 @@ pub returns-then-at-rows : goal.returns-then-at-rows
 returns-then-at-rows g c =
     let e = drop_all c.args.at c.args.rows.now c.if-at-rows.true in
     record {
-      row = sym (at_none g.R.Row.key g.Key-as-Key.order c.args.low _ e);
-      rest = sym (past_none g.R.Row.key g.Key-as-Key.order c.args.low _ e);
+      row = sym (at_none g.R.Row.key g.R.Key.Key.order c.args.low _ e);
+      rest = sym (past_none g.R.Row.key g.R.Key.Key.order c.args.low _ e);
       within = omega arith;
     }
 
 pub returns-in-Equal : goal.returns-in-Equal
 returns-in-Equal g c =
     let e = at_place c.args.rows.now c.args.at c.index-rows-at.result c.if-at-rows.false c.index-rows-at.is in
-    let t = ap is_eq (ap (λ k. g.Key-as-Key.order k c.args.low) (sym c.key-of.ensures) ∙ sym c.in-Equal.ensures) in
+    let t = ap is_eq (ap (λ k. g.R.Key.Key.order k c.args.low) (sym c.key_of.ensures) ∙ sym c.in-Equal.ensures) in
     record {
-      row = sym (at_there g.R.Row.key g.Key-as-Key.order c.args.low _ _ _ e t);
-      rest = sym (past_there g.R.Row.key g.Key-as-Key.order c.args.low _ _ _ e t);
+      row = sym (at_there g.R.Row.key g.R.Key.Key.order c.args.low _ _ _ e t);
+      rest = sym (past_there g.R.Row.key g.R.Key.Key.order c.args.low _ _ _ e t);
       within = omega arith;
     }
 
-pub returns-in-default : goal.returns-in-default
-returns-in-default g c =
+pub returns-in_default : goal.returns-in_default
+returns-in_default g c =
     let e = at_place c.args.rows.now c.args.at c.index-rows-at.result c.if-at-rows.false c.index-rows-at.is in
-    let t = not_level (g.Key-as-Key.order (g.R.Row.key c.index-rows-at.result) c.args.low)
-    (λ z. c.in-default.not-Equal (c.compare.ensures ∙ ap (λ k. g.Key-as-Key.order k c.args.low) c.key-of.ensures ∙ z)) in
+    let t = not_level (g.R.Key.Key.order (g.R.Row.key c.index-rows-at.result) c.args.low)
+    (λ z. c.in_default.not-Equal (c.compare.ensures ∙ ap (λ k. g.R.Key.Key.order k c.args.low) c.key_of.ensures ∙ z)) in
     record {
-      row = sym (at_other g.R.Row.key g.Key-as-Key.order c.args.low _ _ _ e t);
-      rest = sym (past_other g.R.Row.key g.Key-as-Key.order c.args.low _ _ _ e t);
+      row = sym (at_other g.R.Row.key g.R.Key.Key.order c.args.low _ _ _ e t);
+      rest = sym (past_other g.R.Row.key g.R.Key.Key.order c.args.low _ _ _ e t);
       within = omega arith;
     }

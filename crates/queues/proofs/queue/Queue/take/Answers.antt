@@ -12,4 +12,4 @@ returns c =
     let long : c.args.self.now.count ≤ length c.args.self.now.rows = omega arith in
     let count : c.args.self.now.count ≡ (c.args.self.now.count - 1) + 1 = omega arith in
     Take.shifted room count (c.reply.ensures ∙ ap Ok (sym (first_taken c.args.self.now.rows c.args.self.now.count _ some (omega arith))))
-    (shifted_rows c.args.self.now.rows c.copy-within.new.self c.args.self.now.count (c.args.self.now.count - 1) count long c.copy-within.ensures.after)
+    (shifted_rows c.args.self.now.rows c.copy_within.new.self c.args.self.now.count (c.args.self.now.count - 1) count long c.copy_within.ensures.after)

@@ -5,10 +5,10 @@ use Rattle.queues.proofs.queue.QueueKind.answer.Goals as goal
 
 pub returns-then-asks : goal.returns-then-asks
 returns-then-asks c =
-    first_answer c.args.self.now c.args.question c.live.result.now c.first-item.result (sym c.if-asks.ensures) c.live.ensures c.first-item.ensures
+    first_answer c.args.self.now c.args.question c.live.result.now c.first_item.result (sym c.if-asks.ensures) c.live.ensures c.first_item.ensures
 
-pub overflow-cast-live : goal.overflow-cast-live
-overflow-cast-live c =
+pub overflow_cast-live : goal.overflow_cast-live
+overflow_cast-live c =
     let short : length c.live-then-asks-2.result.now ≤ 64 = subst (λ xs. length xs ≤ 64) (sym c.live-then-asks-2.ensures) (live_length c.args.self.now) in
     search rules
 

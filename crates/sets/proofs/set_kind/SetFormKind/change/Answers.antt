@@ -2,13 +2,13 @@ use Rattle.std.proofs.Common.{◌≤◌, take, sym, refl, subst}
 use Rattle.sets.proofs.Calls as calls
 use Rattle.sets.proofs.set_kind.SetFormKind.change.Goals as goal
 
-pub returns-in-default-marked : goal.returns-in-default-marked
-returns-in-default-marked c =
+pub returns-in_default-marked : goal.returns-in_default-marked
+returns-in_default-marked c =
     let known = c.in-Some.ensures in
     let same = c.in-Some-checked.ensures in
     calls.changes_full c.args.self.now c.args.self.now c.args.stamp c.args.change c.in-Some.object known.0 known.1
     (take c.in-Some-checked.value.count c.in-Some-checked.value.rows) (λ i. take (same.1 i) (same.0 i))
-    c.if-change-eq-MARK.true refl c.in-default-marked.ensures
+    c.if-change-eq-MARK.true refl c.in_default-marked.ensures
 
 pub returns-then-change-eq-MARK : goal.returns-then-change-eq-MARK
 returns-then-change-eq-MARK c =

@@ -17,5 +17,5 @@ returns-in-None c =
     let b = c.in-Some.ensures in
     let f = c.in-Some-checked.ensures in
     let s = c.in-Some-checked-2.ensures in
-    calls.merges-not c.args.base.now c.args.first.now c.args.second.now _ _ _
+    calls.merges_not c.args.base.now c.args.first.now c.args.second.now _ _ _
     (λ i. take (b.1 i) (b.0 i)) (λ i. take (f.1 i) (f.0 i)) (λ i. take (s.1 i) (s.0 i)) c.in-None.ensures
