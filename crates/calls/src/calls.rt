@@ -45,7 +45,7 @@ impl Step {
 }
 
 // What a version has seen: of each branch 0 to 15, how many of its events.
-#[derive(Clone, Copy)]
+#[derive(Clone, Copy, PartialEq, Eq, Debug)]
 pub struct Version {
     pub counts: [u16; 16],
 }
@@ -56,10 +56,14 @@ impl Version {
 }
 
 // How two branches meet in a merge, by their versions.
-#[derive(Clone, Copy)]
+#[derive(Clone, Copy, PartialEq, Eq, Debug)]
 pub enum Meeting {
     // the destination, whose head this is, has seen all that the source has
     Seen(usize),
     // the base, the head of the destination and that of the source
-    Apart(usize, usize, usize),
+    Apart {
+        base: usize,
+        first: usize,
+        second: usize,
+    },
 }

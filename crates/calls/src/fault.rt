@@ -23,6 +23,7 @@ pub enum StoreFault {
     OfKind(KindFault),
 }
 
+// By hand, since a derive would have no contract: `from_gives` is what callers learn of a `?`.
 impl From<KindFault> for StoreFault {
     ghost from_gives = { λ e r. r ≡ OfKind e };
 
@@ -53,13 +54,12 @@ impl StoreFault {
         ensures { result ≡ held_by self }
     {
         match self {
-            StoreFault::NoVersion => 0,
+            StoreFault::NoVersion | StoreFault::BranchesFull => 0,
             StoreFault::NotStored(version) => version,
-            StoreFault::BranchesFull => 0,
-            StoreFault::NoBranch(branch) => u32::from(branch),
-            StoreFault::NoSource(branch) => u32::from(branch),
-            StoreFault::VersionsFull(branch) => u32::from(branch),
-            StoreFault::NoBase(branch) => u32::from(branch),
+            StoreFault::NoBranch(branch)
+            | StoreFault::NoSource(branch)
+            | StoreFault::VersionsFull(branch)
+            | StoreFault::NoBase(branch) => u32::from(branch),
             StoreFault::OfKind(fault) => fault.place(),
         }
     }
@@ -69,13 +69,12 @@ impl StoreFault {
         ensures { result.now ≡ subject_of self }
     {
         match self {
-            StoreFault::NoVersion => "version",
-            StoreFault::NotStored(_) => "version",
-            StoreFault::BranchesFull => "branch",
-            StoreFault::NoBranch(_) => "branch",
-            StoreFault::NoSource(_) => "branch",
-            StoreFault::VersionsFull(_) => "branch",
-            StoreFault::NoBase(_) => "branch",
+            StoreFault::NoVersion | StoreFault::NotStored(_) => "version",
+            StoreFault::BranchesFull
+            | StoreFault::NoBranch(_)
+            | StoreFault::NoSource(_)
+            | StoreFault::VersionsFull(_)
+            | StoreFault::NoBase(_) => "branch",
             StoreFault::OfKind(_) => "place",
         }
     }
@@ -97,16 +96,19 @@ impl StoreFault {
     }
 }
 
-// As in '4 at branch 9: there is no such branch'.
+// As in '4 at branch 9: there is no such branch'. By hand, since a derive would have no contract, and `output` promises the text.
 impl fmt::Display for StoreFault {
     ghost output = { λ fault. Some (text_of fault) };
 
     fn fmt<W: fmt::Write>(&self, f: &mut fmt::Formatter<W>) -> fmt::Result {
-        let number = self.number();
-        let subject = self.subject();
-        let holds = self.holds();
-        let words = self.words();
-        write!(f, "{number} at {subject} {holds}: {words}")
+        write!(
+            f,
+            "{} at {} {}: {}",
+            self.number(),
+            self.subject(),
+            self.holds(),
+            self.words()
+        )
     }
 }
 

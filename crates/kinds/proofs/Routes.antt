@@ -1,11 +1,11 @@
 -- What a part's call gives, as the pair gives it.
-use Rattle.std.proofs.Common.{◌≡◌, ℕ, ◌/◌, ◌%◌, ◌^◌, ◌<◌, Bool, true, false, ◌&&◌, eqb, List, [], ◌∷◌, ◌++◌, ℤ, Ok, Err, Result, sym, refl, ap, ◌∙◌, subst, arith}
+use Rattle.std.proofs.Common.{◌≡◌, ℕ, ◌/◌, ◌%◌, ◌^◌, ◌<◌, Bool, true, false, ◌&&◌, eqb, List, [], ◌∷◌, ◌++◌, ℤ, Ok, Err, Result, MatchResult, IsErrAnd, sym, refl, ap, ◌∙◌, subst, arith}
 use Rattle.std.proofs.lemmas.Bool.{and_from, and_left, and_right, eqb-true, eqb-false}
 use Rattle.kinds.specs.Events.{Event, Seen, pick, common, joined}
 use Rattle.kinds.specs.History.{History, Closed, Next}
 use Rattle.kinds.specs.Meaning.{Meaning, Known}
 use Rattle.kinds.specs.Duties.{Changed, Changes, Merged, Merges, Answers, Stamped}
-use Rattle.kinds.specs.Pair.{side_of, on, outer, outer_result, both_results, halved, halved_question, part, pair}
+use Rattle.kinds.specs.Pair.{side_of, on, outer, outer_fault, halved, halved_question, part, pair}
 use Rattle.kinds.specs.declared.calls.Change.{Change}
 use Rattle.kinds.specs.declared.calls.Question.{Question}
 use Rattle.kinds.specs.declared.calls.Stamp.{Stamp}
@@ -14,7 +14,7 @@ use Rattle.kinds.specs.declared.fault.KindFault.TheVariants.{UnknownChange, Does
 use Rattle.kinds.specs.declared.pair.Pair.{Pair}
 use Rattle.kinds.specs.declared.pair.Side.{Side}
 use Rattle.kinds.specs.declared.pair.Side.TheVariants.{Left, Right}
-use Rattle.kinds.proofs.Outcomes.{ok_not_err}
+use Rattle.kinds.proofs.Outcomes.{ok_not_err, same_fault, same_value}
 use Rattle.kinds.proofs.Picks.{by_bool, closed_common, closed_joined}
 use Rattle.kinds.proofs.Parts.{opposite, same_yes, same_no, history_part, known_part, next_part, closed_part, part_mine, part_other, part_pick, last_cut}
 
@@ -27,6 +27,22 @@ outer_half p b =
 
 outer_at : (side : Side) (p : ℕ) → side_of p ≡ side → p < 2 ^ 32 → outer side (p / 2) ≡ p
 outer_at side p o b = ap (λ (s : Side). outer s (p / 2)) (sym o) ∙ outer_half p b
+
+-- a part's result as the pair's: a fault names the pair's place
+abbrev pub outer_result : {A : Type 0} → Side → Result A KindFault → Result A KindFault
+outer_result side (Ok v) = Ok v
+outer_result side (Err f) = Err (outer_fault side f)
+
+-- that is what the result x of side s becomes where its fault is mapped
+pub mapped : {A : Type 0} (s : Side) (x y : Result A KindFault) (post : KindFault → KindFault → Type 0) → MatchResult x (λ v. y ≡ Ok v) (λ e. IsErrAnd y (post e)) →
+    ((e f : KindFault) → post e f → f ≡ outer_fault s e) → y ≡ outer_result s x
+mapped s (Ok v) y post m says = m
+mapped s (Err e) (Ok w) post m says = absurd m
+mapped s (Err e) (Err f) post m says = ap Err (says e f m)
+
+-- where s is this side, and x this result of the side's part
+pub sent_out : {A : Type 0} (side s : Side) (x w y : Result A KindFault) → s ≡ side → x ≡ w → y ≡ outer_result s x → y ≡ outer_result side w
+sent_out side s x w y p q out = out ∙ ap (λ (t : Side). outer_result t x) p ∙ ap (outer_result side) q
 
 -- ---- a question
 module _ {X V : Type 0} (l r : Meaning) (side : Side) (P : X → List Event → Type 0) (R : V → List Event → Type 0) (v-in : X) (v : V)
@@ -127,19 +143,47 @@ part_merged l r side P base first second x call w a b H K ca cb r0 r1 r2 =
 abbrev Both : {X Y : Type 0} → (X → List Event → Type 0) → (Y → List Event → Type 0) → Pair X Y → List Event → Type 0
 Both P Q v h = P v.left (part Left h) × Q v.right (part Right h)
 
-module _ {X Y : Type 0} (l r : Meaning) (P : X → List Event → Type 0) (Q : Y → List Event → Type 0) (h : List Event) (x : Result X KindFault) (y : Result Y KindFault) where
-  both_merged : Merged l P (part Left h) x → Merged r Q (part Right h) y → Merged (pair l r) (Both P Q) h (both_results x y)
-  both_merged (Merged.done a s p u) (Merged.done b t q v) =
-      Merged.done (record { left = a; right = b }) (and_from _ _ s t) (rw (p, q)) (u, v)
-  both_merged (Merged.done a s p u) (Merged.misfit t q) = Merged.misfit (and_right _ _ t) (rw (p, q, s))
-  both_merged (Merged.misfit s p) m = Merged.misfit (and_left _ _ s) (rw (p, s))
+module _ {X Y : Type 0} (l r : Meaning) (P : X → List Event → Type 0) (Q : Y → List Event → Type 0) (h : List Event) (x : Result X KindFault) where
+  left_named : (f : KindFault) → ◌≡◌ {A = Result X KindFault} (Err f) (outer_result Left x) → Merged l P (part Left h) x → Merged (pair l r) (Both P Q) h (Err f)
+  left_named f o (Merged.done v s p u) = absurd (ok_not_err (sym (o ∙ ap (outer_result Left) p)))
+  left_named f o (Merged.misfit s p) = let e = same_fault (o ∙ ap (outer_result Left) p) in Merged.misfit (and_left _ _ s) (rw (e, s))
 
-module _ {X Y : Type 0} (l r : Meaning) (P : X → List Event → Type 0) (Q : Y → List Event → Type 0) (base first second : Pair X Y) (x : Result X KindFault) (y : Result Y KindFault)
-    (z : Result (Pair X Y) KindFault) where
-  pub pair_merges : z ≡ both_results x y → Merges l P base.left first.left second.left x → Merges r Q base.right first.right second.right y →
-      Merges (pair l r) (λ v h. P v.left (part Left h) × Q v.right (part Right h)) base first second z
-  pair_merges together on-left on-right w a b H K ca cb r0 r1 r2 =
-      subst (λ (m : Result (Pair X Y) KindFault). Merged (pair l r) (Both P Q) (pick (joined a b) w) m) (sym together)
-      (both_merged l r P Q (pick (joined a b) w) x y
-      (part_merged l r Left P _ _ _ x on-left w a b H K ca cb r0.0 r1.0 r2.0)
-      (part_merged l r Right Q _ _ _ y on-right w a b H K ca cb r0.1 r1.1 r2.1))
+  right_named : (y : Result Y KindFault) (f : KindFault) (u : X) → Ok u ≡ outer_result Left x → ◌≡◌ {A = Result Y KindFault} (Err f) (outer_result Right y) →
+      Merged l P (part Left h) x → Merged r Q (part Right h) y → Merged (pair l r) (Both P Q) h (Err f)
+  right_named y f u i o (Merged.misfit s p) m = absurd (ok_not_err (i ∙ ap (outer_result Left) p))
+  right_named y f u i o (Merged.done a s p t) (Merged.done v q e w) = absurd (ok_not_err (sym (o ∙ ap (outer_result Right) e)))
+  right_named y f u i o (Merged.done a s p t) (Merged.misfit q e) =
+      let d = same_fault (o ∙ ap (outer_result Right) e) in Merged.misfit (and_right _ _ q) (rw (d, s))
+
+  both_made : (y : Result Y KindFault) (u : X) (v : Y) → Ok u ≡ outer_result Left x → Ok v ≡ outer_result Right y →
+      Merged l P (part Left h) x → Merged r Q (part Right h) y → Merged (pair l r) (Both P Q) h (Ok (record { left = u; right = v }))
+  both_made y u v i j (Merged.misfit s p) m = absurd (ok_not_err (i ∙ ap (outer_result Left) p))
+  both_made y u v i j (Merged.done a s p t) (Merged.misfit q e) = absurd (ok_not_err (j ∙ ap (outer_result Right) e))
+  both_made y u v i j (Merged.done a s p t) (Merged.done b q e w) =
+      Merged.done (record { left = u; right = v }) (and_from _ _ s q) refl (
+        subst (λ (z : X). P z (part Left h)) (sym (same_value (i ∙ ap (outer_result Left) p))) t,
+        subst (λ (z : Y). Q z (part Right h)) (sym (same_value (j ∙ ap (outer_result Right) e))) w,
+      )
+
+-- The three ends of a pair's merge, which begins with the left part: x and y are what the parts' merges give.
+module _ {X Y : Type 0} (l r : Meaning) (P : X → List Event → Type 0) (Q : Y → List Event → Type 0) (base first second : Pair X Y) where
+  abbrev Owed : Result (Pair X Y) KindFault → Type 0
+  Owed z = Merges (pair l r) (λ v h. P v.left (part Left h) × Q v.right (part Right h)) base first second z
+
+  module _ (x : Result X KindFault) (on-left : Merges l P base.left first.left second.left x) where
+    pub merge_stops_left : (f : KindFault) (z : Result (Pair X Y) KindFault) → z ≡ Err f → ◌≡◌ {A = Result X KindFault} (Err f) (outer_result Left x) → Owed z
+    merge_stops_left f z e o w a b H K ca cb r0 r1 r2 =
+        subst (λ (m : Result (Pair X Y) KindFault). Merged (pair l r) (Both P Q) (pick (joined a b) w) m) (sym e)
+        (left_named l r P Q (pick (joined a b) w) x f o (part_merged l r Left P _ _ _ x on-left w a b H K ca cb r0.0 r1.0 r2.0))
+
+    module _ (u : X) (i : Ok u ≡ outer_result Left x) (y : Result Y KindFault) (on-right : Merges r Q base.right first.right second.right y) where
+      pub merge_stops_right : (f : KindFault) (z : Result (Pair X Y) KindFault) → z ≡ Err f → ◌≡◌ {A = Result Y KindFault} (Err f) (outer_result Right y) → Owed z
+      merge_stops_right f z e o w a b H K ca cb r0 r1 r2 =
+          subst (λ (m : Result (Pair X Y) KindFault). Merged (pair l r) (Both P Q) (pick (joined a b) w) m) (sym e)
+          (right_named l r P Q (pick (joined a b) w) x y f u i o
+          (part_merged l r Left P _ _ _ x on-left w a b H K ca cb r0.0 r1.0 r2.0) (part_merged l r Right Q _ _ _ y on-right w a b H K ca cb r0.1 r1.1 r2.1))
+
+      pub merge_ends : (v : Y) → Ok v ≡ outer_result Right y → Owed (Ok (record { left = u; right = v }))
+      merge_ends v j w a b H K ca cb r0 r1 r2 =
+          both_made l r P Q (pick (joined a b) w) x y u v i j
+          (part_merged l r Left P _ _ _ x on-left w a b H K ca cb r0.0 r1.0 r2.0) (part_merged l r Right Q _ _ _ y on-right w a b H K ca cb r0.1 r1.1 r2.1)

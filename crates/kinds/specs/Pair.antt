@@ -1,12 +1,11 @@
 -- A pair of two kinds: even places belong to the left part, odd ones to the right.
-use Rattle.std.specs.Prelude.{ℕ, ◌+◌, ◌*◌, ◌/◌, ◌%◌, ◌^◌, Bool, true, false, cond, ◌&&◌, List, [], ◌∷◌, ℤ, Ok, Err, Result, ◌==◌}
+use Rattle.std.specs.Prelude.{ℕ, ◌+◌, ◌*◌, ◌/◌, ◌%◌, ◌^◌, Bool, true, false, cond, ◌&&◌, List, [], ◌∷◌, ◌==◌}
 use Rattle.kinds.specs.Events.{Event, Seen, pick, common}
 use Rattle.kinds.specs.Meaning.{Meaning}
 use Rattle.kinds.specs.declared.calls.Change.{Change}
 use Rattle.kinds.specs.declared.calls.Question.{Question}
 use Rattle.kinds.specs.declared.fault.KindFault.{KindFault}
 use Rattle.kinds.specs.declared.fault.KindFault.TheVariants.{UnknownChange, DoesNotFit, UnknownQuestion}
-use Rattle.kinds.specs.declared.pair.Pair.{Pair}
 use Rattle.kinds.specs.declared.pair.Side.{Side}
 use Rattle.kinds.specs.declared.pair.Side.TheVariants.{Left, Right}
 
@@ -59,17 +58,6 @@ abbrev pub outer_fault : Side → KindFault → KindFault
 outer_fault side (UnknownChange p) = UnknownChange (outer side p)
 outer_fault side (DoesNotFit p) = DoesNotFit (outer side p)
 outer_fault side (UnknownQuestion p) = UnknownQuestion (outer side p)
-
--- what a part replies or answers, as the pair does: a fault names the pair's place
-abbrev pub outer_result : Side → Result ℤ KindFault → Result ℤ KindFault
-outer_result side (Ok v) = Ok v
-outer_result side (Err f) = Err (outer_fault side f)
-
--- what the two parts give together: where neither gives a value, the left one's fault
-abbrev pub both_results : {A B : Type 0} → Result A KindFault → Result B KindFault → Result (Pair A B) KindFault
-both_results (Ok a) (Ok b) = Ok (record { left = a; right = b })
-both_results (Ok a) (Err f) = Err (outer_fault Right f)
-both_results (Err f) r = Err (outer_fault Left f)
 
 -- A change or a question goes to the part that its place belongs to. A history fits if both parts' do; if neither does, the left is named.
 abbrev pub pair : Meaning → Meaning → Meaning

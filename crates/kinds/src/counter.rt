@@ -5,6 +5,11 @@ ghost use Rattle.std.proofs.Common.{rules};
 
 use crate::{Change, Kind, KindFault, Question, Stamp};
 
+// The verb that the counter knows, and its question.
+const ADD: u8 = 1;
+
+const TOTAL: u8 = 1;
+
 // The most that one change adds or takes back.
 const LIMIT: i32 = 1_000_000;
 
@@ -15,6 +20,7 @@ pub struct Counter {
 
 impl Counter {
     // The greatest sum of a history: 4,095 events of a million each. The least is its negative, so no sum comes near the ends of 64 bits.
+    #[tactic(auto, using(crate::proofs::Sums::sums_within))]
     pub fn greatest_sum() -> i64
         ensures value { result ≡ pos 4095000000 }
         ensures bound { SumsWithin result }
@@ -26,29 +32,25 @@ impl Counter {
 fn adds(change: Change) -> bool
     ensures { result ≡ counter.knows change }
 {
-    change.place == 0 && change.verb == 1 && -LIMIT <= change.argument && change.argument <= LIMIT
+    change.place == 0 && change.verb == ADD && (-LIMIT..=LIMIT).contains(&change.argument)
 }
 
 fn asks_total(question: Question) -> bool
     ensures { result ≡ counter.hears question }
 {
-    question.place == 0 && question.verb == 1 && question.argument == 0
+    question.place == 0 && question.verb == TOTAL && question.argument == 0
 }
 
 impl Kind for Counter {
     const NUMBER: u16 = 1;
 
-    ghost number = { 1 };
+    ghost NUMBER = { 1 };
 
     ghost meaning = { counter };
 
     ghost represents = { λ v h. v.total ≡ sum h };
 
     ghost fitting = { Prim.search rules };
-
-    fn kind_number() -> u16 {
-        Self::NUMBER
-    }
 
     fn empty() -> Counter {
         Counter { total: 0 }

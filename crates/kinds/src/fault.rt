@@ -29,9 +29,9 @@ impl KindFault {
         ensures { result ≡ fault_place self }
     {
         match self {
-            KindFault::UnknownChange(place) => place,
-            KindFault::DoesNotFit(place) => place,
-            KindFault::UnknownQuestion(place) => place,
+            KindFault::UnknownChange(place)
+            | KindFault::DoesNotFit(place)
+            | KindFault::UnknownQuestion(place) => place,
         }
     }
 

@@ -8,10 +8,10 @@ use crate::{Change, KindFault, Question, Stamp};
 
 // A value lies in memory that a caller lends, so it is plain data that can be copied.
 pub trait Kind: Copy {
-    // The kind's number. No clause cites this constant: what is proved of it is what `kind_number` ensures.
+    // The kind's number, fixed with the kind.
     const NUMBER: u16;
 
-    ghost number: { ℕ };
+    ghost NUMBER: { ℕ };
 
     // What the kind means, by histories of events alone.
     ghost meaning: { Meaning };
@@ -19,8 +19,11 @@ pub trait Kind: Copy {
     // Which values stand for a history. A value need not stand for any.
     ghost represents: { Self → List Event → Type 0 };
 
-    fn kind_number() -> u16
-        ensures { result ≡ number };
+    final fn kind_number() -> u16
+        ensures { result ≡ NUMBER }
+    {
+        Self::NUMBER
+    }
 
     // The value for the empty history.
     fn empty() -> Self

@@ -1,6 +1,6 @@
 // A pair of any two kinds is a kind: even places belong to the left part, odd ones to the right.
 ghost use Rattle.std.specs.Prelude.{◌≡◌};
-ghost use Rattle.kinds.specs.Pair.{both_results, halved, halved_question, outer as outer_place, outer_fault, outer_result, pair, pair_number, part, side_of};
+ghost use Rattle.kinds.specs.Pair.{outer as outer_place, outer_fault, pair, pair_number, part, side_of};
 ghost use Rattle.kinds.specs.declared.pair.Side.TheVariants.{Left, Right};
 ghost use Rattle.std.proofs.Common.{rules};
 
@@ -30,16 +30,7 @@ impl Side {
         }
     }
 
-    // What this side's part replied or answered, as the pair does: a fault names the pair's place.
-    fn outward(self, res: Result<i64, KindFault>) -> Result<i64, KindFault>
-        ensures { result ≡ outer_result self res }
-    {
-        match res {
-            Ok(value) => Ok(value),
-            Err(fault) => Err(self.outer_fault(fault)),
-        }
-    }
-
+    // A fault of this side's part, as the pair's: it names the pair's place.
     fn outer_fault(self, fault: KindFault) -> KindFault
         ensures { result ≡ outer_fault self fault }
     {
@@ -61,48 +52,13 @@ impl Side {
     }
 }
 
-// A change and a question as the part gets them.
-fn inner_change(change: Change) -> Change
-    ensures { result ≡ halved change }
-{
-    Change {
-        place: change.place / 2,
-        verb: change.verb,
-        argument: change.argument,
-    }
-}
-
-fn inner_question(question: Question) -> Question
-    ensures { result ≡ halved_question question }
-{
-    Question {
-        place: question.place / 2,
-        verb: question.verb,
-        argument: question.argument,
-    }
-}
-
-// The two parts' results together: where neither went well, the left one's fault.
-fn both<L: Drop, R: Drop>(
-    left: Result<L, KindFault>,
-    right: Result<R, KindFault>,
-) -> Result<Pair<L, R>, KindFault>
-    ensures { result ≡ both_results left right }
-{
-    match (left, right) {
-        (Ok(left), Ok(right)) => Ok(Pair { left, right }),
-        (Err(fault), _) => Err(Side::Left.outer_fault(fault)),
-        (Ok(_), Err(fault)) => Err(Side::Right.outer_fault(fault)),
-    }
-}
-
 impl<L: Kind, R: Kind> Kind for Pair<L, R> {
     const NUMBER: u16 = L::NUMBER
         .wrapping_mul(7)
         .wrapping_add(R::NUMBER.wrapping_mul(13))
         .wrapping_add(5);
 
-    ghost number = { pair_number L.Kind.number R.Kind.number };
+    ghost NUMBER = { pair_number L.NUMBER R.NUMBER };
 
     ghost meaning = { pair L.Kind.meaning R.Kind.meaning };
 
@@ -110,13 +66,7 @@ impl<L: Kind, R: Kind> Kind for Pair<L, R> {
 
     ghost fitting = { Prim.search rules };
 
-    fn kind_number() -> u16 {
-        L::kind_number()
-            .wrapping_mul(7)
-            .wrapping_add(R::kind_number().wrapping_mul(13))
-            .wrapping_add(5)
-    }
-
+    #[tactic(auto, unfolding(crate::specs::Pair::cuts, crate::specs::Events::pick, crate::specs::Pair::sent))]
     fn empty() -> Pair<L, R> {
         Pair {
             left: L::empty(),
@@ -125,29 +75,37 @@ impl<L: Kind, R: Kind> Kind for Pair<L, R> {
     }
 
     fn change(&mut self, stamp: Stamp, change: Change) -> Result<i64, KindFault> {
-        let inner = inner_change(change);
-        match Side::of(change.place) {
-            Side::Left => Side::Left.outward(self.left.change(stamp, inner)),
-            Side::Right => Side::Right.outward(self.right.change(stamp, inner)),
+        let inner = change.halved();
+        let side = Side::of(change.place);
+        match side {
+            Side::Left => self.left.change(stamp, inner),
+            Side::Right => self.right.change(stamp, inner),
         }
+        .map_err(|fault| side.outer_fault(fault))
     }
 
+    // Where neither part can be merged, the left one's fault is named.
     fn merge(
         base: &Pair<L, R>,
         first: &Pair<L, R>,
         second: &Pair<L, R>,
     ) -> Result<Pair<L, R>, KindFault> {
-        both(
-            L::merge(&base.left, &first.left, &second.left),
-            R::merge(&base.right, &first.right, &second.right),
-        )
+        let left = L::merge(&base.left, &first.left, &second.left).map_err(
+            |fault| Side::Left.outer_fault(fault),
+        )?;
+        let right = R::merge(&base.right, &first.right, &second.right).map_err(
+            |fault| Side::Right.outer_fault(fault),
+        )?;
+        Ok(Pair { left, right })
     }
 
     fn answer(&self, question: Question) -> Result<i64, KindFault> {
-        let inner = inner_question(question);
-        match Side::of(question.place) {
-            Side::Left => Side::Left.outward(self.left.answer(inner)),
-            Side::Right => Side::Right.outward(self.right.answer(inner)),
+        let inner = question.halved();
+        let side = Side::of(question.place);
+        match side {
+            Side::Left => self.left.answer(inner),
+            Side::Right => self.right.answer(inner),
         }
+        .map_err(|fault| side.outer_fault(fault))
     }
 }

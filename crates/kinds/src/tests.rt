@@ -150,7 +150,7 @@ fn merges_each_part_of_a_pair(rt: HostRuntime) -> Result<(), Fail> {
     Ok(())
 }
 
-// No contract cites the constant of a generic kind, so that it is the number which `kind_number` is proved to give is tested.
+// The constant, the function and the arithmetic by hand agree, at several depths of pairs.
 #[test]
 fn has_the_constant_that_the_number_is_proved_for(rt: HostRuntime) {
     assert_eq!(rt; Counter::NUMBER, Counter::kind_number());

@@ -1,8 +1,4 @@
--- What the contracts of the queue cite: Queue and Line. The others are lemmas, which the proof of its law cites.
+-- What the contracts of the queue cite, and the law of its kind.
 pub mod Queue
 pub mod Line
-pub mod Calls
-pub mod Kept
-pub mod Lines
-pub mod Takings
-pub mod Nexts
+pub mod Fits

@@ -1,11 +1,10 @@
 -- The rows of a queue: the puts that wait, in the order of their event numbers.
-use Rattle.std.specs.Prelude.{◌≡◌, ℕ, ◌+◌, ◌<◌, ◌≤◌, Bool, cond, ◌&&◌, List, [], ◌∷◌, ◌++◌, map, length, take, drop, ℤ, pos, negsuc, Some, None, Ok, Err, Option, Result, ◌==◌, nat_le}
+use Rattle.std.specs.Prelude.{◌≡◌, ℕ, ◌+◌, ◌<◌, ◌≤◌, Bool, ◌&&◌, List, [], ◌∷◌, ◌++◌, map, length, take, drop, ℤ, pos, negsuc, Ok, Err, Result, ◌==◌}
 use Rattle.kinds.specs.Events.{Event}
-use Rattle.kinds.specs.declared.calls.Change.{Change}
 use Rattle.kinds.specs.declared.fault.KindFault.{KindFault}
 use Rattle.kinds.specs.declared.fault.KindFault.TheVariants.{DoesNotFit}
 use Rattle.rows.specs.Lists.{natural}
-use Rattle.queues.specs.Queue.{puts, waiting}
+use Rattle.queues.specs.Queue.{waiting}
 use Rattle.queues.specs.declared.queue.Queue.{Queue}
 use Rattle.queues.specs.declared.wait.Wait.{Wait}
 
@@ -31,18 +30,10 @@ pub record Represents (q : Queue) (h : List Event) : Type 0 where
   pub counted : q.count ≡ length (line h)
   pub lined : take q.count q.rows ≡ line h
 
--- the rows that count: none in a value with more than 64, which stands for no history
-abbrev pub live : Queue → List Wait
-live q = cond (nat_le q.count 64) (take q.count q.rows) []
-
 -- the item of the first row, or -1
 abbrev pub first_item : List Wait → ℤ
 first_item [] = negsuc 0
 first_item (x ∷ xs) = pos x.item
-
--- the item that a change puts, where it puts one
-abbrev pub item_put : Change → Option ℕ
-item_put c = cond (puts c) (Some (natural c.argument)) None
 
 -- What it is to put the row x: the reply r, and the value afterwards.
 pub data Put (before : Queue) (x : Wait) (r : Result ℤ KindFault) (after : Queue) : Type 0 where

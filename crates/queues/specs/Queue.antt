@@ -5,7 +5,7 @@ use Rattle.kinds.specs.Meaning.{Meaning}
 use Rattle.kinds.specs.Counter.{between}
 use Rattle.kinds.specs.declared.calls.Change.{Change}
 use Rattle.kinds.specs.declared.calls.Question.{Question}
-use Rattle.rows.specs.Lists.{any}
+use Rattle.std.specs.List.{list_any}
 
 -- verb 1 puts its argument, and verb 2 takes
 abbrev pub is_put : Event → Bool
@@ -21,7 +21,7 @@ pub record Taking : Type 0 where
 
 -- a take among the events s took the put of number n
 abbrev pub took : Seen → List Taking → ℕ → Bool
-took s ts n = any (λ t. s t.by && t.item == n) ts
+took s ts n = list_any (λ t. s t.by && t.item == n) ts
 
 -- the put e is among the events s, and no take among them took it
 abbrev pub waits : Seen → List Taking → Event → Bool

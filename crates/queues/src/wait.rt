@@ -1,10 +1,10 @@
 // A row of the queue: an item that waits, by the event that put it.
-ghost use Rattle.queues.specs.Line.{same_wait, wait_key};
 ghost use Rattle.std.proofs.Common.{rules};
+ghost use Rattle.queues.specs.Line.{wait_key};
 
 use rows::Row;
 
-#[derive(Clone, Copy)]
+#[derive(Clone, Copy, PartialEq, Eq)]
 pub struct Wait {
     pub event: u16,
     pub item: u16,
@@ -17,17 +17,11 @@ impl Row for Wait {
 
     ghost key = { wait_key };
 
-    ghost same = { same_wait };
+    ghost whole = { Prim.search rules };
 
-    ghost alike = { Prim.search rules };
+    ghost level = { Prim.search rules };
 
-    ghost itself = { Prim.search rules };
-
-    fn key_of(&self) -> u16 {
+    fn key(&self) -> u16 {
         self.event
-    }
-
-    fn equals(&self, other: &Wait) -> bool {
-        self.event == other.event && self.item == other.item
     }
 }

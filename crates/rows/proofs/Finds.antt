@@ -1,16 +1,13 @@
 -- Rows that rise by key, and the row at a key.
-use Rattle.std.proofs.Common.{◌≡◌, ℕ, true, false, ◌&&◌, ◌⊎◌, List, [], ◌∷◌, Some, None, Option, Ordering, Less, sym, refl, ap, ◌∙◌, subst, inl, inr, arith}
+use Rattle.std.proofs.Common.{◌≡◌, ℕ, zero, suc, ◌<◌, length, get_or, Bool, true, false, ◌&&◌, ◌⊎◌, List, [], ◌∷◌, Some, None, Option, Ordering, Less, sym, refl, ap, ◌∙◌, subst, inl, inr, arith}
 use Rattle.std.proofs.lemmas.Bool.{and_parts, and_from}
 use Rattle.std.specs.Ordering.{is_lt}
+use Rattle.std.specs.List.{IsAllAdjacentAnswer}
+use Rattle.std.proofs.Math.Bool.{and-false}
+use Rattle.std.proofs.Math.Numerals.{add-one}
 use Rattle.rows.specs.Keys.{Total}
-use Rattle.rows.specs.Rows.{find, over, rises_over}
-use Rattle.rows.specs.KeysLemmas as keys
-
-pub none_some : {A P : Type 0} (x : A) → ◌≡◌ {A = Option A} None (Some x) → P
-none_some x e = let z : ◌≡◌ {A = ℕ} 0 1 = cc in absurd (omega arith)
-
-pub some_same : {A : Type 0} (x y : A) → ◌≡◌ {A = Option A} (Some x) (Some y) → x ≡ y
-some_same x y e = cc
+use Rattle.rows.specs.Rows.{find, over, rises_over, rises}
+use Rattle.rows.proofs.KeysLemmas as keys
 
 module _ {K R : Type 0} (order : K → K → Ordering) (key : R → K) where
   pub rises_none : (m : Option K) → rises_over order key m [] ≡ true
@@ -29,17 +26,25 @@ module _ {K R : Type 0} (order : K → K → Ordering) (key : R → K) where
   unfolding rises_over
   rises_make m x xs h e = and_from _ _ h e
 
-  -- the test of one row more, as a loop makes it
-  pub rises_stop : (m : Option K) (x : R) (xs ys : List R) → ys ≡ x ∷ xs → over order m (key x) ≡ false → rises_over order key m ys ≡ false
-  unfolding rises_over
-  rises_stop m x xs ys e h = rw e (ap (λ t. t && rises_over order key (Some (key x)) xs) h)
+  -- rows rise where each key is below the next
+  each_below : (m : Option K) (xs : List R) → ((d : R) → 0 < length xs → over order m (key (get_or xs 0 d)) ≡ true) →
+      ((k : ℕ) (d : R) → suc k < length xs → is_lt (order (key (get_or xs k d)) (key (get_or xs (suc k) d))) ≡ true) → rises_over order key m xs ≡ true
+  each_below m [] h a = rises_none m
+  each_below m (x ∷ xs) h a = rises_make m x xs (h x (omega arith)) (each_below (Some (key x)) xs (λ d l. a 0 d (omega arith)) (λ k d l. a (suc k) d (omega arith)))
 
-  pub rises_go : (m : Option K) (x : R) (xs ys : List R) → ys ≡ x ∷ xs → over order m (key x) ≡ true → rises_over order key m ys ≡ rises_over order key (Some (key x)) xs
+  -- and do not where one is not
+  one_above : (m : Option K) (xs : List R) (k : ℕ) → suc k < length xs →
+      ((d : R) → is_lt (order (key (get_or xs k d)) (key (get_or xs (suc k) d))) ≡ false) → rises_over order key m xs ≡ false
   unfolding rises_over
-  rises_go m x xs ys e h = rw e (ap (λ t. t && rises_over order key (Some (key x)) xs) h)
+  one_above m [] k l a = absurd (omega arith)
+  one_above m (x ∷ []) k l a = absurd (omega arith)
+  one_above m (x ∷ (y ∷ ys)) zero l a = ap (λ t. over order m (key x) && (t && rises_over order key (Some (key y)) ys)) (a x) ∙ and-false (over order m (key x))
+  one_above m (x ∷ (y ∷ ys)) (suc k) l a = ap (λ t. over order m (key x) && t) (one_above (Some (key x)) (y ∷ ys) k (omega arith) a) ∙ and-false (over order m (key x))
 
-  pub rises_end : (m : Option K) (ys : List R) → ys ≡ [] → rises_over order key m ys ≡ true
-  rises_end m ys e = rw e (rises_none m)
+  -- the answer of a test of all neighbours
+  pub rises_answer : (xs : List R) (r : Bool) → IsAllAdjacentAnswer (λ x y b. b ≡ is_lt (order (key x) (key y))) xs r → r ≡ rises order key xs
+  rises_answer xs true a = sym (each_below None xs (λ d l. refl) (λ k d l. sym (rw add-one at (a k d (omega arith)))))
+  rises_answer xs false a = sym (one_above None xs a.0 (omega arith) (λ d. sym (rw add-one at (a.2 d))))
 
   pub find_none : (k : K) → find order key k [] ≡ None
   unfolding find
@@ -78,8 +83,8 @@ module _ {K R : Type 0} (order : K → K → Ordering) (key : R → K) where
     -- two rising lists with the same row at each key are one
     pub rising_same : (m n : Option K) (xs ys : List R) → rises_over order key m xs ≡ true → rises_over order key n ys ≡ true → ((k : K) → find order key k xs ≡ find order key k ys) → xs ≡ ys
     rising_same m n [] [] e f h = refl
-    rising_same m n [] (y ∷ ys) e f h = none_some y (sym (find_none (key y)) ∙ h (key y) ∙ find_here y ys)
-    rising_same m n (x ∷ xs) [] e f h = none_some x (sym (find_none (key x)) ∙ sym (h (key x)) ∙ find_here x xs)
+    rising_same m n [] (y ∷ ys) e f h = let z = sym (find_none (key y)) ∙ h (key y) ∙ find_here y ys in cc
+    rising_same m n (x ∷ xs) [] e f h = let z = sym (find_none (key x)) ∙ sym (h (key x)) ∙ find_here x xs in cc
     rising_same m n (x ∷ xs) (y ∷ ys) e f h =
         go (rising_same (Some (key x)) (Some (key y)) xs ys (rises_rest m x xs e) (rises_rest n y ys f)) (keys.three order total (key x) (key y))
       where
@@ -92,16 +97,17 @@ module _ {K R : Type 0} (order : K → K → Ordering) (key : R → K) where
         each c k = keys.by_order (order (key x) k)
             (λ l. let d : key x ≡ k → ⊥ = keys.less_apart order total (key x) k l in
             sym (find_next k x xs d) ∙ h k ∙ find_next k y ys (λ (z : key y ≡ k). d (c ∙ z)))
-            (λ l. at (λ (z : order (key x) k ≡ Less). keys.less_equal (order (key x) k) z l))
-            (λ l. at (λ (z : order (key x) k ≡ Less). keys.less_greater (order (key x) k) z l))
+            (λ l. at (λ (z : order (key x) k ≡ Less). cc))
+            (λ l. at (λ (z : order (key x) k ≡ Less). cc))
           where
             at : (order (key x) k ≡ Less → ⊥) → find order key k xs ≡ find order key k ys
             at u = find_below k (key x) xs (rises_rest m x xs e) u
                 ∙ sym (find_below k (key y) ys (rises_rest n y ys f) (λ z. u (subst (λ v. order v k ≡ Less) (sym c) z)))
 
         go : (((k : K) → find order key k xs ≡ find order key k ys) → xs ≡ ys) → (order (key x) (key y) ≡ Less) ⊎ ((key x ≡ key y) ⊎ (order (key y) (key x) ≡ Less)) → x ∷ xs ≡ y ∷ ys
-        go rest (inl l) = none_some x (sym (missing x y ys (rises_rest n y ys f) l) ∙ sym (h (key x)) ∙ find_here x xs)
+        go rest (inl l) = let z = sym (missing x y ys (rises_rest n y ys f) l) ∙ sym (h (key x)) ∙ find_here x xs in cc
         go rest (inr (inl c)) =
-            let one : x ≡ y = some_same x y (sym (find_here x xs) ∙ h (key x) ∙ find_first (key x) y ys (sym c)) in
+            let z = sym (find_here x xs) ∙ h (key x) ∙ find_first (key x) y ys (sym c) in
+            let one : x ≡ y = cc in
             rw (one, rest (each c)) refl
-        go rest (inr (inr l)) = none_some y (sym (missing y x xs (rises_rest m x xs e) l) ∙ h (key y) ∙ find_here y ys)
+        go rest (inr (inr l)) = let z = sym (missing y x xs (rises_rest m x xs e) l) ∙ h (key y) ∙ find_here y ys in cc

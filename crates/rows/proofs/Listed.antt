@@ -1,43 +1,34 @@
 -- Lists of events: what passes a test, what a history with one event more holds, and the rows that events stand for.
 use Rattle.std.proofs.Common.{◌≡◌, ◌<◌, Bool, true, false, cond, ltb, List, [], ◌∷◌, ◌++◌, map, Some, None, filter, Ordering, sym, refl, ap, ◌∙◌, inl, inr, arith, le-ltb, lt-ltb}
 use borrow.Author.Tests.{clash}
-use Rattle.std.proofs.lemmas.Bool.{both_ways, or_cases, or_parts, or_left, or_right}
+use Rattle.std.proofs.lemmas.Bool.{false_from_ne_true, both_ways, or_cases, or_parts, or_left, or_right}
 use Rattle.kinds.specs.Events.{Event, Seen, In, Rising, pick}
 use Rattle.kinds.proofs.Picks.{in_cons, in_none, pick_none, pick_yes, pick_no}
 use Rattle.rows.specs.Keys.{Total}
 use Rattle.rows.specs.Rows.{find}
-use Rattle.rows.specs.Lists.{any}
-use Rattle.rows.specs.KeysLemmas as keys
+use Rattle.std.specs.List.{list_any}
+use Rattle.rows.proofs.KeysLemmas as keys
 use Rattle.rows.proofs.Finds.{find_none, find_first, find_next}
 
 -- ---- tests
-pub not_yes : (a : Bool) → (a ≡ true → ⊥) → a ≡ false
-not_yes true h = absurd (h refl)
-not_yes false h = refl
-
--- two tests that follow from each other are one
-pub same_tests : (a b : Bool) → (a ≡ true → b ≡ true) → (b ≡ true → a ≡ true) → a ≡ b
-same_tests true b f g = sym (f refl)
-same_tests false b f g = sym (not_yes b (λ y. both_ways false refl (g y)))
-
-pub any_some : (p : Event → Bool) (es : List Event) → any p es ≡ true → (e : Event) × In e es × (p e ≡ true)
+pub any_some : (p : Event → Bool) (es : List Event) → list_any p es ≡ true → (e : Event) × In e es × (p e ≡ true)
 any_some p [] h = absurd (clash h)
 any_some p (e ∷ es) h =
-    elim (or_cases (p e) (any p es) h) [
+    elim (or_cases (p e) (list_any p es) h) [
       | inl y ↦ (e, In.here, y)
       | inr y ↦ let r = any_some p es y in (r.0, In.there r.1, r.2)
     ]
 
-pub any_none : (p : Event → Bool) {e : Event} {es : List Event} → any p es ≡ false → In e es → p e ≡ false
-any_none p {e} h (In.here {es = es}) = (or_parts (p e) (any p es) h).0
-any_none p h (In.there {f = f} {es = es} i) = any_none p (or_parts (p f) (any p es) h).1 i
+pub any_none : (p : Event → Bool) {e : Event} {es : List Event} → list_any p es ≡ false → In e es → p e ≡ false
+any_none p {e} h (In.here {es = es}) = (or_parts (p e) (list_any p es) h).0
+any_none p h (In.there {f = f} {es = es} i) = any_none p (or_parts (p f) (list_any p es) h).1 i
 
-pub any_make : (p : Event → Bool) {e : Event} {es : List Event} → In e es → p e ≡ true → any p es ≡ true
-any_make p {e} (In.here {es = es}) y = or_left (p e) (any p es) y
-any_make p (In.there {f = f} {es = es} i) y = or_right (p f) (any p es) (any_make p i y)
+pub any_make : (p : Event → Bool) {e : Event} {es : List Event} → In e es → p e ≡ true → list_any p es ≡ true
+any_make p {e} (In.here {es = es}) y = or_left (p e) (list_any p es) y
+any_make p (In.there {f = f} {es = es} i) y = or_right (p f) (list_any p es) (any_make p i y)
 
-pub any_nothing : (p : Event → Bool) (es : List Event) → ((e : Event) → In e es → p e ≡ false) → any p es ≡ false
-any_nothing p es h = not_yes (any p es) (λ y. let r = any_some p es y in both_ways (p r.0) (h r.0 r.1) r.2)
+pub any_nothing : (p : Event → Bool) (es : List Event) → ((e : Event) → In e es → p e ≡ false) → list_any p es ≡ false
+any_nothing p es h = false_from_ne_true (list_any p es) (λ y. let r = any_some p es y in both_ways (p r.0) (h r.0 r.1) r.2)
 
 -- ---- numbers
 pub one_number : {es : List Event} → Rising es → (e f : Event) → In e es → In f es → e.number ≡ f.number → e ≡ f

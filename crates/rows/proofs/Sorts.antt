@@ -2,11 +2,11 @@
 use Rattle.std.proofs.Common.{◌≡◌, suc, Bool, true, false, cond, ◌||◌, ◌⊎◌, List, [], ◌∷◌, length, Some, None, filter, Option, Ordering, Less, Equal, Greater, sym, refl, ap, ◌∙◌, inl, inr}
 use Rattle.std.specs.Ordering.{is_eq, is_lt, is_le}
 use Rattle.rows.specs.Keys.{Total}
-use Rattle.rows.specs.Lists.{any}
+use Rattle.std.specs.List.{list_any}
 use Rattle.rows.specs.Rows.{find, over, rises_over, rises}
 use Rattle.rows.specs.Sorted.{insert, sorted}
-use Rattle.rows.specs.KeysLemmas as keys
-use Rattle.rows.proofs.Finds.{none_some, rises_none, rises_first, rises_rest, rises_make, rises_lower, find_none, find_first, find_next, find_below}
+use Rattle.rows.proofs.KeysLemmas as keys
+use Rattle.rows.proofs.Finds.{rises_none, rises_first, rises_rest, rises_make, rises_lower, find_none, find_first, find_next, find_below}
 
 or_swap : (a b c : Bool) → (a || (b || c)) ≡ (b || (a || c))
 or_swap true true c = refl
@@ -34,16 +34,16 @@ module _ {K R : Type 0} (order : K → K → Ordering) (key : R → K) where
   sorted_length [] = refl
   sorted_length (x ∷ xs) = insert_length x (sorted order key xs) ∙ ap suc (sorted_length xs)
 
-  any_insert : (p : R → Bool) (r : R) (xs : List R) → any p (insert order key r xs) ≡ (p r || any p xs)
+  any_insert : (p : R → Bool) (r : R) (xs : List R) → list_any p (insert order key r xs) ≡ (p r || list_any p xs)
   unfolding insert
   any_insert p r [] = refl
   any_insert p r (x ∷ xs) = go (is_le (order (key r) (key x))) (any_insert p r xs)
     where
-      go : (t : Bool) → any p (insert order key r xs) ≡ (p r || any p xs) → any p (cond t (r ∷ (x ∷ xs)) (x ∷ insert order key r xs)) ≡ (p r || (p x || any p xs))
+      go : (t : Bool) → list_any p (insert order key r xs) ≡ (p r || list_any p xs) → list_any p (cond t (r ∷ (x ∷ xs)) (x ∷ insert order key r xs)) ≡ (p r || (p x || list_any p xs))
       go true ih = refl
-      go false ih = ap (λ b. p x || b) ih ∙ or_swap (p x) (p r) (any p xs)
+      go false ih = ap (λ b. p x || b) ih ∙ or_swap (p x) (p r) (list_any p xs)
 
-  pub any_sorted : (p : R → Bool) (xs : List R) → any p (sorted order key xs) ≡ any p xs
+  pub any_sorted : (p : R → Bool) (xs : List R) → list_any p (sorted order key xs) ≡ list_any p xs
   unfolding sorted
   any_sorted p [] = refl
   any_sorted p (x ∷ xs) = any_insert p x (sorted order key xs) ∙ ap (λ b. p x || b) (any_sorted p xs)
@@ -76,7 +76,7 @@ module _ {K R : Type 0} (order : K → K → Ordering) (key : R → K) where
 
     missing : (k : K) (x : R) (xs : List R) → find order key k (x ∷ xs) ≡ None → (key x ≡ k → ⊥) × (find order key k xs ≡ None)
     missing k x xs e = elim (keys.either order total (key x) k) [
-      | inl q ↦ none_some x (sym e ∙ find_first order key total k x xs q)
+      | inl q ↦ let z = sym e ∙ find_first order key total k x xs q in (cc, cc)
       | inr q ↦ (q, sym (find_next order key total k x xs q) ∙ e)
     ]
 

@@ -4,8 +4,7 @@ use borrow.Author.Tests.{lt-leb}
 use Rattle.std.proofs.lemmas.List.{take_more_set, take-append-drop, take_all, take-append-le, take-take, take_at, length-take-le, drop-drop, drop-set-lt}
 use Rattle.rows.specs.Keys.{Total}
 use Rattle.rows.specs.Rows.{outcome}
-use Rattle.rows.specs.Walk.{head_key, lower, lowest, at_key, past, put, walk, walked, Added, nothing, full, more, Joins}
-use Rattle.rows.proofs.Finds.{none_some, some_same}
+use Rattle.rows.specs.Walk.{lowest, at_key, past, put, walk, walked, Added, nothing, full, more, Joins}
 use Rattle.rows.proofs.Walks.{step_less, step_is, end_is, walked_joined}
 
 module _ {R : Type 0} where
@@ -31,16 +30,16 @@ module _ {R : Type 0} where
   pub added_some : (start before after : List R) (n n' : ℕ) (row : Option R) → n ≤ length before → length before ≡ length start → drop n before ≡ drop n start →
       Added before after n row (Some n') → Grown start before after n n' row
   added_some start before after n n' row h s u (nothing p q e) =
-      let m : n' ≡ n = some_same n' n q in
+      let m : n' ≡ n = cc in
       record {
         within = rw (m, e) h;
         long = ap length e ∙ s;
         untouched = rw (m, e) u;
         front = λ rest. rw (m, e, p) (ap (λ ys. take n before ++ ys) (sym (put_none rest)));
       }
-  added_some start before after n n' row h s u (full x p q l e) = none_some n' (sym q)
+  added_some start before after n n' row h s u (full x p q l e) = cc
   added_some start before after n n' row h s u (more x p q l e) =
-      let m : n' ≡ n + 1 = some_same n' (n + 1) q in
+      let m : n' ≡ n + 1 = cc in
       let long : length after ≡ length before = ap length e ∙ length-set before n x in
       record {
         within = omega arith;
@@ -50,39 +49,37 @@ module _ {R : Type 0} where
       }
 
   pub added_none : (before after : List R) (n : ℕ) (row : Option R) → Added before after n row None → (x : R) × (row ≡ Some x) × (length before ≤ n) × (after ≡ before)
-  added_none before after n row (nothing p q e) = none_some n q
+  added_none before after n row (nothing p q e) = cc
   added_none before after n row (full x p q l e) = (x, p, l, e)
-  added_none before after n row (more x p q l e) = none_some (n + 1) q
+  added_none before after n row (more x p q l e) = cc
+
+module _ {K R : Type 0} (order : K → K → Ordering) (key : R → K) (same : R → R → Bool) where
+  -- The join on its way: the rows written, and those that the walk still gives, are the rows of the whole walk.
+  pub record Going (base first second before l a b out : List R) (n : ℕ) : Type 0 where
+    pub within : n ≤ length out
+    pub long : length out ≡ length before
+    pub untouched : drop n out ≡ drop n before
+    pub turns : ℕ
+    pub enough : length l + (length a + length b) ≤ turns
+    pub front : take n out ++ walk order key same turns l a b ≡ walked order key same base first second
+
+  pub going_first : (base first second out : List R) → Going base first second out base first second out 0
+  going_first base first second out = record {
+    within = omega arith;
+    long = refl;
+    untouched = refl;
+    turns = length base + (length first + length second);
+    enough = omega arith;
+    front = refl;
+  }
 
 module _ {K R : Type 0} (order : K → K → Ordering) (total : Total order) (key : R → K) (same : R → R → Bool) where
-  -- the key that the loop is at
-  module _ (l a b : List R) (hl ha hb low : Option K) (pl : hl ≡ head_key key l) (pa : ha ≡ head_key key a) (pb : hb ≡ head_key key b) (pm : low ≡ lower order ha hb) where
-    at_lowest : (o : Option K) → o ≡ lower order hl low → lowest order key l a b ≡ o
-    at_lowest o e = sym (e ∙ (λ i. lower order (pl i) ((pm ∙ (λ j. lower order (pa j) (pb j))) i)))
-
-    pub turn_end : (f : ℕ) → None ≡ lower order hl low → walk order key same f l a b ≡ []
-    turn_end f e = end_is order total key same f l a b (at_lowest None e)
-
-    module _ (q : K) (l' a' b' : List R) (e : Some q ≡ lower order hl low) (el : l' ≡ past order key q l) (ea : a' ≡ past order key q a) (eb : b' ≡ past order key q b) where
-      pub turn_less : length l' + (length a' + length b') < length l + (length a + length b)
-      turn_less = rw (el, ea, eb) (step_less order total key q l a b (at_lowest (Some q) e))
-
-      pub turn_is : (f : ℕ) (rl ra rb row : Option R) → rl ≡ at_key order key q l → ra ≡ at_key order key q a → rb ≡ at_key order key q b → row ≡ outcome same rl ra rb →
-          length l + (length a + length b) ≤ f →
-          (g : ℕ) × (length l' + (length a' + length b') ≤ g) × (walk order key same f l a b ≡ put row (walk order key same g l' a' b'))
-      turn_is f rl ra rb row ql qa qb er h =
-          let s = step_is order total key same q f l a b (at_lowest (Some q) e) h in (
-            s.0,
-            rw (el, ea, eb) s.1,
-            s.2 ∙ sym (λ i. put ((er ∙ (λ j. outcome same (ql j) (qa j) (qb j))) i) (walk order key same s.0 (el i) (ea i) (eb i))),
-          )
-
   module _ (base first second before : List R) where
     W : List R
     W = walked order key same base first second
 
     -- all rows are written
-    pub join_done : (out : List R) (n : ℕ) → n ≤ length out → length out ≡ length before → drop n out ≡ drop n before → (rest : List R) → rest ≡ [] →
+    join_done : (out : List R) (n : ℕ) → n ≤ length out → length out ≡ length before → drop n out ≡ drop n before → (rest : List R) → rest ≡ [] →
         take n out ++ rest ≡ walked order key same base first second → Joins order key same base first second before out (Some n)
     unfolding W
     join_done out n h s u rest none e =
@@ -97,7 +94,7 @@ module _ {K R : Type 0} (order : K → K → Ordering) (total : Total order) (ke
         }
 
     -- there is one row more than there are places
-    pub join_full : (out after : List R) (n : ℕ) (x : R) (row : Option R) (now rest : List R) → n ≤ length out → length out ≡ length before → length out ≤ n → after ≡ out →
+    join_full : (out after : List R) (n : ℕ) (x : R) (row : Option R) (now rest : List R) → n ≤ length out → length out ≡ length before → length out ≤ n → after ≡ out →
         row ≡ Some x → now ≡ put row rest → take n out ++ now ≡ walked order key same base first second → Joins order key same base first second before after None
     unfolding W
     join_full out after n x row now rest h s l same_out p t e =
@@ -113,6 +110,46 @@ module _ {K R : Type 0} (order : K → K → Ordering) (total : Total order) (ke
           rows = walked_joined order total key same base first second;
         }
 
+-- one turn of the loop, at the key q
+module _ {K R : Type 0} {order : K → K → Ordering} (total : Total order) {key : R → K} {same : R → R → Bool} {base first second before l a b out : List R} {n : ℕ}
+    (go : Going order key same base first second before l a b out n) where
+  module _ {q : K} (e : Some q ≡ lowest order key l a b) {l' a' b' : List R} (el : l' ≡ past order key q l) (ea : a' ≡ past order key q a) (eb : b' ≡ past order key q b) where
+    pub turn_less : length l' + (length a' + length b') < length l + (length a + length b)
+    turn_less = rw (el, ea, eb) (step_less order total key q l a b (sym e))
+
+    module _ {rl ra rb row : Option R} (ql : rl ≡ at_key order key q l) (qa : ra ≡ at_key order key q a) (qb : rb ≡ at_key order key q b) (er : row ≡ outcome same rl ra rb) where
+      turn_is : (g : ℕ) × (length l' + (length a' + length b') ≤ g) × (walk order key same go.turns l a b ≡ put row (walk order key same g l' a' b'))
+      turn_is =
+          let s = step_is order total key same q go.turns l a b (sym e) go.enough in (
+            s.0,
+            rw (el, ea, eb) s.1,
+            s.2 ∙ sym (λ i. put ((er ∙ (λ j. outcome same (ql j) (qa j) (qb j))) i) (walk order key same s.0 (el i) (ea i) (eb i))),
+          )
+
+      pub going_on : {after : List R} {m : ℕ} → Added out after n row (Some m) → Going order key same base first second before l' a' b' after m
+      going_on {after} {m} w =
+          let add = added_some before out after n m row go.within go.long go.untouched w in
+          let t = turn_is in
+          record {
+            within = add.within;
+            long = add.long;
+            untouched = add.untouched;
+            turns = t.0;
+            enough = t.1;
+            front = add.front _ ∙ ap (λ ys. take n out ++ ys) (sym t.2) ∙ go.front;
+          }
+
+      -- there is no place for its row
+      pub going_full : {after : List R} → Added out after n row None → Joins order key same base first second before after None
+      going_full {after} w =
+          let add = added_none out after n row w in
+          join_full order total key same base first second before out after n add.0 row _ _ go.within go.long add.2 add.3 add.1 turn_is.2 go.front
+
+  -- there is no turn more
+  pub going_end : None ≡ lowest order key l a b → Joins order key same base first second before out (Some n)
+  going_end e =
+      join_done order total key same base first second before out n go.within go.long go.untouched _ (end_is order total key same go.turns l a b (sym e)) go.front
+
 -- ---- what a caller reads off a join's answer
 module _ {K R : Type 0} (order : K → K → Ordering) (key : R → K) (same : R → R → Bool) (base first second before after : List R) where
   abbrev rows : List R
@@ -124,16 +161,16 @@ module _ {K R : Type 0} (order : K → K → Ordering) (key : R → K) (same : R
     where
       go : (t : Bool) → leb (length rows) (length before) ≡ t → Some n ≡ cond t (Some (length rows)) None → (n ≤ length before) × (take n after ≡ rows)
       go true l e =
-          let m : n ≡ length rows = some_same n (length rows) e in
+          let m : n ≡ length rows = cc in
           let h : length rows ≤ length before = leb-true (length rows) (length before) l in (
             omega arith,
             ap (take n) j.written ∙ take-take n (length before) (rows ++ drop (length rows) before) (omega arith) ∙ take_at rows (drop (length rows) before) n (sym m),
           )
-      go false l e = none_some n (sym e)
+      go false l e = (cc, cc)
 
   pub joins_none : Joins order key same base first second before after None → length before < length (walked order key same base first second)
   joins_none j = go (leb (length rows) (length before)) refl j.count
     where
       go : (t : Bool) → leb (length rows) (length before) ≡ t → None ≡ cond t (Some (length rows)) None → length before < length rows
-      go true l e = none_some (length rows) e
+      go true l e = absurd cc
       go false l e = leb-false (length rows) (length before) l

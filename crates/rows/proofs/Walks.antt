@@ -4,8 +4,8 @@ use Rattle.std.specs.Ordering.{is_eq, is_lt, is_le}
 use Rattle.rows.specs.Keys.{Total}
 use Rattle.rows.specs.Rows.{find, over, rises_over, rises, alike, or_else, outcome, Joined}
 use Rattle.rows.specs.Walk.{head_key, lower, lowest, at_key, past, put, walk, walked}
-use Rattle.rows.specs.KeysLemmas as keys
-use Rattle.rows.proofs.Finds.{none_some, some_same, rises_none, rises_first, rises_rest, rises_make, rises_lower, find_first, find_next, find_below, rising_same}
+use Rattle.rows.proofs.KeysLemmas as keys
+use Rattle.rows.proofs.Finds.{rises_none, rises_first, rises_rest, rises_make, rises_lower, find_first, find_next, find_below, rising_same}
 
 module _ {K : Type 0} (order : K → K → Ordering) (total : Total order) where
   -- the key q is not above one that may be there
@@ -30,7 +30,7 @@ module _ {K : Type 0} (order : K → K → Ordering) (total : Total order) where
       go : (o : Ordering) → order x y ≡ o → Low (Some x) (Some y) (cond (is_le o) (Some x) (Some y))
       go Less e = (under_itself x, (λ l. keys.less_back order total x y e l), inl refl)
       go Equal e = (under_itself x, (λ l. keys.less_apart order total y x l (sym (total.level x y e))), inl refl)
-      go Greater e = ((λ l. keys.less_greater (order x y) l e), under_itself y, inr refl)
+      go Greater e = ((λ l. cc), under_itself y, inr refl)
 
   -- and of three
   abbrev Lowest : Option K → Option K → Option K → Option K → Type 0
@@ -43,12 +43,12 @@ module _ {K : Type 0} (order : K → K → Ordering) (total : Total order) where
 
   under_none : (q : K) (o : Option K) → o ≡ None → Under q o
   under_none q None e = tt
-  under_none q (Some x) e = none_some x (sym e)
+  under_none q (Some x) e = absurd cc
 
   low_two : (l a b m r : Option K) → Low a b m → Low l m r → Lowest l a b r
   low_two l a b None None u v = (v.0, u.0, u.1)
-  low_two l a b (Some k) None u v = none_some k (sym v.1)
-  low_two l a b None (Some q) u v = (v.0, under_none q a u.0, under_none q b u.1, elim v.2 [ inl e ↦ inl e | inr e ↦ none_some q e ])
+  low_two l a b (Some k) None u v = let e = v.1 in (cc, cc, cc)
+  low_two l a b None (Some q) u v = (v.0, under_none q a u.0, under_none q b u.1, elim v.2 [ inl e ↦ inl e | inr e ↦ absurd cc ])
   low_two l a b (Some k) (Some q) u v = (
     v.0,
     under_less q k a v.1 u.0,
@@ -92,18 +92,18 @@ module _ {K : Type 0} (order : K → K → Ordering) (total : Total order) where
 
     past_less : (q : K) (xs : List R) → head_key key xs ≡ Some q → length (past order key q xs) < length xs
     unfolding past head_key
-    past_less q [] e = none_some q e
-    past_less q (x ∷ xs) e = rw (keys.eq_same order total (key x) q (some_same (key x) q e)) (omega arith)
+    past_less q [] e = absurd cc
+    past_less q (x ∷ xs) e = rw (keys.eq_same order total (key x) q (cc)) (omega arith)
 
     head_empty : (xs : List R) → head_key key xs ≡ None → xs ≡ []
     unfolding head_key
     head_empty [] e = refl
-    head_empty (x ∷ xs) e = none_some (key x) (sym e)
+    head_empty (x ∷ xs) e = cc
 
     head_over : (m : Option K) (q : K) (xs : List R) → rises_over order key m xs ≡ true → head_key key xs ≡ Some q → over order m q ≡ true
     unfolding head_key
-    head_over m q [] e h = none_some q h
-    head_over m q (x ∷ xs) e h = subst (λ z. over order m z ≡ true) (some_same (key x) q h) (rises_first order key m x xs e)
+    head_over m q [] e h = absurd cc
+    head_over m q (x ∷ xs) e h = subst (λ z. over order m z ≡ true) (cc) (rises_first order key m x xs e)
 
     -- the row there has the key q
     abbrev Has : K → Option R → Type 0

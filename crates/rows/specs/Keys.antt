@@ -1,6 +1,6 @@
--- What a total order of keys is, and the order of numbers.
-use Rattle.std.specs.Prelude.{◌≡◌, ℕ, cond, ◌==◌, nat_lt}
-use Rattle.std.specs.declared.cmp.Ordering.TheVariants.{Less, Equal, Greater}
+-- What a total order of keys is.
+use Rattle.std.specs.Prelude.{◌≡◌}
+use Rattle.std.specs.declared.cmp.Ordering.TheVariants.{Less, Equal}
 use Rattle.std.specs.declared.cmp.Ordering.{Ordering}
 use Rattle.std.specs.Ordering.{ordering_reverse}
 
@@ -12,7 +12,3 @@ pub record Total {K : Type 0} (order : K → K → Ordering) : Type 0 where
   pub turned : (a b : K) → order b a ≡ ordering_reverse (order a b)
   -- and what is below a key is below all that is above that key
   pub through : (a b c : K) → order a b ≡ Less → order b c ≡ Less → order a c ≡ Less
-
--- numbers, rising
-abbrev pub by_number : ℕ → ℕ → Ordering
-by_number m n = cond (nat_lt m n) Less (cond (m == n) Equal Greater)

@@ -3,4 +3,3 @@ pub mod Rows
 pub mod Walk
 pub mod Lists
 pub mod Sorted
-pub mod KeysLemmas

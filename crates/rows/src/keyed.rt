@@ -1,53 +1,19 @@
-// What a row is: it has a key, and keys have a total order.
-ghost use Rattle.std.specs.Prelude.{◌≡◌, Bool, true};
-ghost use Rattle.std.specs.declared.cmp.Ordering.{Ordering as Comparison};
-ghost use Rattle.rows.specs.Keys.{Total, by_number};
-ghost use Rattle.rows.specs.KeysLemmas.{total_number};
+// What a row is: it has a key, and is compared with another row as a whole.
+ghost use Rattle.std.specs.Prelude.{◌≡◌, true};
+ghost use Rattle.std.specs.declared.cmp.Ordering.TheVariants.{Equal};
 
-use std::cmp::Ordering;
-
-// A key of any make, compared as a whole: nothing asks that it be a number.
-pub trait Key: Copy {
-    ghost order: { Self → Self → Comparison };
-
-    fn compare(&self, other: &Self) -> Ordering
-        ensures { result ≡ order self.now other.now };
-
-    ghost total: { Total order };
-}
-
-// A row has a key, and is compared with another row as a whole.
-pub trait Row: Copy {
-    type Key: Key;
+// The key may be of any make that has an order: nothing asks that it be a number.
+pub trait Row: Eq + Copy {
+    type Key: Ord + Copy;
 
     ghost key: { Self → Self.Key };
 
-    ghost same: { Self → Self → Bool };
-
-    fn key_of(&self) -> Self::Key
+    fn key(&self) -> Self::Key
         ensures { result ≡ key self.now };
 
-    fn equals(&self, other: &Self) -> bool
-        ensures { result ≡ same self.now other.now };
+    // Rows that are equal are one row.
+    ghost whole: { (x y : Self) → Self.eq x y ≡ true → x ≡ y };
 
-    ghost alike: { (x y : Self) → same x y ≡ true → x ≡ y };
-
-    ghost itself: { (x : Self) → same x x ≡ true };
-}
-
-// Numbers, rising: a key by itself, or a part of one.
-impl Key for u16 {
-    ghost order = { by_number };
-
-    ghost total = { total_number };
-
-    fn compare(&self, other: &u16) -> Ordering {
-        if *self < *other {
-            Ordering::Less
-        } else if *self == *other {
-            Ordering::Equal
-        } else {
-            Ordering::Greater
-        }
-    }
+    // Keys that compare as equal are one key.
+    ghost level: { (a b : Self.Key) → Self.Key.cmp a b ≡ Equal → a ≡ b };
 }

@@ -5,4 +5,4 @@ mod joining;
 mod keyed;
 
 pub use joining::{join, rising};
-pub use keyed::{Key, Row};
+pub use keyed::Row;

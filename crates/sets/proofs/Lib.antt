@@ -2,3 +2,6 @@ pub mod Sides
 pub mod Longer
 pub mod Loops
 pub mod Calls
+pub mod Orders
+pub mod Lives
+pub mod Members

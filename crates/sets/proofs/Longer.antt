@@ -1,24 +1,23 @@
 -- What a mark and a clear do to the rows, and a merge.
 use Rattle.std.proofs.Common.{◌≡◌, ◌<◌, Bool, true, false, cond, not, eqb, ◌⊎◌, List, [], ◌∷◌, ◌++◌, length, Some, None, filter, Option, sym, refl, ap, ◌∙◌, subst, inl, inr, arith, lt-ltb, eq-eqb, eqb-true}
 use borrow.Author.Tests.{eqb-false, lt-leb}
-use Rattle.std.proofs.lemmas.Bool.{and_parts, and_from, both_ways}
+use Rattle.std.proofs.lemmas.Bool.{false_from_ne_true, and_parts, and_from, both_ways}
 use Rattle.kinds.specs.Events.{Event, Seen, In, pick, common, joined}
 use Rattle.kinds.specs.History.{History, Closed, Next}
 use Rattle.kinds.proofs.Histories.{coherent, by_last}
-use Rattle.rows.specs.Rows.{rises, outcome, Joined}
-use Rattle.rows.specs.Walk.{walked}
-use Rattle.rows.specs.KeysLemmas as keys
+use Rattle.rows.specs.Rows.{outcome, Joined}
+use Rattle.rows.proofs.KeysLemmas as keys
 use Rattle.rows.proofs.Finds.{find_none, find_first, find_next, rising_same, rises_none, rises_make}
 use Rattle.rows.proofs.Sorts.{sift, find_kept, rises_kept}
 use Rattle.rows.proofs.Walks.{walked_joined, joined_one}
-use Rattle.rows.proofs.Listed.{not_yes, everything, pick_all, before, pick_before}
+use Rattle.rows.proofs.Listed.{everything, pick_all, before, pick_before}
 use Rattle.sets.specs.Set.{object, is_mark, clears, rows, object_set}
-use Rattle.sets.specs.Table.{by_object_then_branch, mark_key, same_mark, row_of, table}
+use Rattle.sets.specs.Table.{by_object_then_branch, mark_key, same_mark, row_of, table, in_order, join_of}
 use Rattle.sets.specs.declared.marks.Mark.{Mark}
 use Rattle.sets.specs.declared.marks.MarkKey.{MarkKey}
-use Rattle.sets.specs.Orders.{total_keys}
-use Rattle.sets.specs.Lives.{key_of, at_key, MarksAt, cuts, Live, one_live, found_row, no_row, row_or_none, table_rises}
-use Rattle.sets.specs.Members.{table_length}
+use Rattle.sets.proofs.Orders.{total_keys}
+use Rattle.sets.proofs.Lives.{key_of, at_key, MarksAt, cuts, Live, one_live, found_row, no_row, row_or_none, table_rises}
+use Rattle.sets.specs.Fitting.{table_length}
 use Rattle.sets.proofs.Sides.{rows_joined}
 
 -- two parts of a history with the same rows at a key
@@ -35,11 +34,16 @@ put_in r None = refl
 put_in r (Some x) = refl
 
 -- the rows of a history are in order
-pub table_in_order : (h : List Event) → History h → rises by_object_then_branch mark_key (table h) ≡ true
-table_in_order h hist = subst (λ x. rises by_object_then_branch mark_key (table x) ≡ true) (pick_all h) (table_rises h hist everything)
+pub table_in_order : (h : List Event) → History h → in_order (table h) ≡ true
+table_in_order h hist = subst (λ x. in_order (table x) ≡ true) (pick_all h) (table_rises h hist everything)
+
+-- what has the rows of a join, in order, is the join
+join_is : (a b c rows : List Mark) → in_order a ≡ true → in_order b ≡ true → in_order c ≡ true → Joined by_object_then_branch mark_key same_mark a b c rows → join_of a b c ≡ rows
+join_is a b c rows p q r j =
+    joined_one by_object_then_branch total_keys mark_key same_mark a b c _ _ (walked_joined by_object_then_branch total_keys mark_key same_mark a b c p q r) j
 
 -- one row is
-pub one_row : (r : Mark) → rises by_object_then_branch mark_key (r ∷ []) ≡ true
+pub one_row : (r : Mark) → in_order (r ∷ []) ≡ true
 one_row r = rises_make by_object_then_branch mark_key None r [] refl (rises_none by_object_then_branch mark_key (Some (mark_key r)))
 
 module _ (h : List Event) (hist : History h) (e : Event) (next : Next h e) where
@@ -100,13 +104,13 @@ module _ (h : List Event) (hist : History h) (e : Event) (next : Next h e) where
       seen = refl;
       mark = record { verb = mark; key = refl };
       last = λ g j s m. elim (split g j) [ inl i ↦ let a = next.above g i in omega arith | inr q ↦ let a : g.number ≡ e.number = ap (λ z. z.number) q in omega arith ];
-      uncut = λ g j s. not_yes (cuts g e) (λ y.
+      uncut = λ g j s. false_from_ne_true (cuts g e) (λ y.
           let n = hist'.earlier g e.number j (and_parts (clears (object e) g) (g.saw e.number) y).1 in
           elim (split g j) [ inl i ↦ let a = next.above g i in omega arith | inr q ↦ let a : g.number ≡ e.number = ap (λ z. z.number) q in omega arith ]);
     }
 
     no_clear : (f : Event) → cuts e f ≡ false
-    no_clear f = not_yes (cuts e f) (λ y.
+    no_clear f = false_from_ne_true (cuts e f) (λ y.
         let a = and_parts (clears (object f) e) (e.saw f.number) y in
         let b = eqb-true _ _ (and_parts (eqb e.change.verb 2) (eqb (object e) (object f)) a.0).0 in
         let c = eqb-true _ _ mark in
@@ -136,11 +140,9 @@ module _ (h : List Event) (hist : History h) (e : Event) (next : Next h e) where
     }
 
     -- a mark joins its row to those before
-    pub marked_table : walked by_object_then_branch mark_key same_mark [] (row_of e ∷ []) (table h) ≡ table (h ++ (e ∷ []))
+    pub marked_table : join_of [] (row_of e ∷ []) (table h) ≡ table (h ++ (e ∷ []))
     marked_table =
-        joined_one by_object_then_branch total_keys mark_key same_mark [] (row_of e ∷ []) (table h) _ _
-        (walked_joined by_object_then_branch total_keys mark_key same_mark [] (row_of e ∷ []) (table h) (rises_none by_object_then_branch mark_key None) (one_row (row_of e)) (table_in_order h hist))
-        marked_joined
+        join_is [] (row_of e ∷ []) (table h) _ (rises_none by_object_then_branch mark_key None) (one_row (row_of e)) (table_in_order h hist) marked_joined
 
   module _ (clear : eqb e.change.verb 2 ≡ true) where
     abbrev others : Mark → Bool
@@ -172,7 +174,7 @@ module _ (h : List Event) (hist : History h) (e : Event) (next : Next h e) where
             (and_from (clears (object g) e) (e.saw g.number) (and_from (eqb e.change.verb 2) (eqb (object e) (object g)) clear (eq-eqb _ _ z)) (next.all g i)))
             ∙ sym (ap {B = Option Mark} (λ t. cond (not t) (Some (row_of f)) None) q)
         go f l false q =
-            found_row w hist' everything k f (later_row k f (no_mark k) (not_yes (cuts e f) (λ y.
+            found_row w hist' everything k f (later_row k f (no_mark k) (false_from_ne_true (cuts e f) (λ y.
             let a = and_parts (clears (object f) e) (e.saw f.number) y in
             let b = eqb-true (object e) (object f) (and_parts (eqb e.change.verb 2) (eqb (object e) (object f)) a.0).1 in
             eqb-false (object f) (object e) q (sym b))) l)
@@ -182,7 +184,7 @@ module _ (h : List Event) (hist : History h) (e : Event) (next : Next h e) where
     pub cleared_table : filter (λ (x : Mark). not (eqb x.object (object e))) (table h) ≡ table (h ++ (e ∷ []))
     unfolding w
     cleared_table =
-        let rise : rises by_object_then_branch mark_key (table (pick (before e) w)) ≡ true = table_rises w hist' (before e) in
+        let rise : in_order (table (pick (before e) w)) ≡ true = table_rises w hist' (before e) in
         sym (ap table (sym whole)
         ∙ rising_same by_object_then_branch mark_key total_keys None None (table (pick everything w)) (filter others (table (pick (before e) w))) (table_rises w hist' everything)
         (rises_kept by_object_then_branch mark_key total_keys others None (table (pick (before e) w)) rise)
@@ -191,12 +193,9 @@ module _ (h : List Event) (hist : History h) (e : Event) (next : Next h e) where
 
 -- a merge joins the rows of its sides
 pub merged_table : (w : List Event) → History w → (a b : Seen) → Closed a w → Closed b w →
-    walked by_object_then_branch mark_key same_mark (table (pick (common a b) w)) (table (pick a w)) (table (pick b w)) ≡ table (pick (joined a b) w)
+    join_of (table (pick (common a b) w)) (table (pick a w)) (table (pick b w)) ≡ table (pick (joined a b) w)
 merged_table w hist a b ca cb =
-    joined_one by_object_then_branch total_keys mark_key same_mark (table (pick (common a b) w)) (table (pick a w)) (table (pick b w)) _ _
-    (walked_joined by_object_then_branch total_keys mark_key same_mark (table (pick (common a b) w)) (table (pick a w)) (table (pick b w))
-    (table_rises w hist (common a b)) (table_rises w hist a) (table_rises w hist b))
-    (rows_joined w hist a b ca cb)
+    join_is (table (pick (common a b) w)) (table (pick a w)) (table (pick b w)) _ (table_rises w hist (common a b)) (table_rises w hist a) (table_rises w hist b) (rows_joined w hist a b ca cb)
 
 -- rows that are too many are those of a history that doesn't fit
 pub too_many : (h : List Event) (xs : List Mark) → xs ≡ table h → 96 < length xs → object_set.fits h ≡ false

@@ -1,28 +1,19 @@
--- One turn of a loop over the rows of a set.
-use Rattle.std.proofs.Common.{◌≡◌, ℕ, ◌+◌, ◌<◌, Bool, true, false, cond, ◌||◌, List, [], ◌∷◌, ◌++◌, length, take, set, filter, sym, ap, ◌∙◌, append_assoc}
-use Rattle.std.proofs.lemmas.List.{take_more_set}
-use Rattle.rows.specs.Lists.{any}
+-- One turn of a loop that writes the items that it is given, one after another.
+use Rattle.std.proofs.Common.{◌≡◌, ℕ, ◌+◌, ◌<◌, ◌≤◌, List, [], ◌∷◌, ◌++◌, length, map, take, set, Bor, sym, ap, ◌∙◌, arith, length-set}
+use Rattle.std.proofs.lemmas.List.{take_more_set, length_push, map-append}
 
-module _ {A : Type 0} (p : A → Bool) where
-  pub any_yes : (x : A) (xs ys : List A) → ys ≡ x ∷ xs → p x ≡ true → any p ys ≡ true
-  any_yes x xs ys e t = ap (any p) e ∙ ap (λ b. b || any p xs) t
+-- The first n of `out`, which has so many places, are the items so far.
+pub record Copied {A : Type 0} (places : ℕ) (out : List A) (n : ℕ) (items : List (Bor A)) : Type 0 where
+  pub places_are : length out ≡ places
+  pub within : n ≤ places
+  pub count : n ≡ length items
+  pub written : take n out ≡ map (λ x. x.now) items
 
-  pub any_no : (x : A) (xs ys : List A) → ys ≡ x ∷ xs → p x ≡ false → any p ys ≡ any p xs
-  any_no x xs ys e t = ap (any p) e ∙ ap (λ b. b || any p xs) t
-
-  pub any_end : (ys : List A) → ys ≡ [] → any p ys ≡ false
-  any_end ys e = ap (any p) e
-
-  -- one that passes is written after the first n
-  pub kept_one : (rest out later : List A) (n n' : ℕ) (x : A) (xs all : List A) → rest ≡ x ∷ xs → p x ≡ true → later ≡ set out n x → n' ≡ n + 1 → n < length out →
-      take n out ++ filter p rest ≡ all → take n' later ++ filter p xs ≡ all
-  kept_one rest out later n n' x xs all e t o m l inv =
-      (λ i. take (m i) (o i) ++ filter p xs) ∙ ap (λ ys. ys ++ filter p xs) (take_more_set out n x l) ∙ append_assoc (take n out) (x ∷ []) (filter p xs)
-      ∙ ap (λ ys. take n out ++ ys) (sym (ap (filter p) e ∙ ap {B = List A} (λ b. cond b (x ∷ filter p xs) (filter p xs)) t)) ∙ inv
-
-  -- one that does not is passed over
-  pub kept_none : (rest out later : List A) (n n' : ℕ) (x : A) (xs all : List A) → rest ≡ x ∷ xs → p x ≡ false → later ≡ out → n' ≡ n →
-      take n out ++ filter p rest ≡ all → take n' later ++ filter p xs ≡ all
-  kept_none rest out later n n' x xs all e t o m inv =
-      (λ i. take (m i) (o i) ++ filter p xs)
-      ∙ ap (λ ys. take n out ++ ys) (sym (ap (filter p) e ∙ ap {B = List A} (λ b. cond b (x ∷ filter p xs) (filter p xs)) t)) ∙ inv
+pub copied_more : {A : Type 0} {places : ℕ} {out : List A} {n : ℕ} {items : List (Bor A)} (x : Bor A) → n < places → Copied places out n items →
+    Copied places (set out n x.now) (n + 1) (items ++ x ∷ [])
+copied_more {out = out} {n} {items} x l c = record {
+  places_are = length-set out n x.now ∙ c.places_are;
+  within = omega arith;
+  count = ap (λ k. k + 1) c.count ∙ sym (length_push items x);
+  written = take_more_set out n x.now (omega arith) ∙ ap (λ ys. ys ++ x.now ∷ []) c.written ∙ sym (map-append (λ y. y.now) items (x ∷ []));
+}

@@ -1,20 +1,20 @@
 -- The join of the rows of two parts of a history is the rows of both parts together.
 use Rattle.std.proofs.Common.{◌≡◌, ℕ, Bool, true, false, not, ◌&&◌, eqb, ◌⊎◌, List, Some, None, Option, sym, refl, ap, ◌∙◌, subst, inl, inr, arith, eqb-true}
+use Rattle.std.proofs.Math.Logic.{⊎_swap}
+use Rattle.std.specs.List.{list_any}
 use borrow.Author.Tests.{eqb-false, not-true, clash}
-use Rattle.std.proofs.lemmas.Bool.{and_parts, and_from, both_ways, cases_Bool, cases_order, or_cases, or_left, or_right}
+use Rattle.std.proofs.lemmas.Bool.{false_from_ne_true, and_parts, and_from, both_ways, cases_Bool, cases_order, or_cases, or_left, or_right}
 use Rattle.std.specs.Ordering.{is_eq}
 use Rattle.kinds.specs.Events.{Event, Seen, In, pick, common, joined}
 use Rattle.kinds.specs.History.{History, Closed}
-use Rattle.rows.specs.Lists.{any}
 use Rattle.rows.specs.Rows.{alike, or_else, outcome, Joined}
-use Rattle.rows.specs.KeysLemmas as keys
-use Rattle.rows.proofs.Listed.{not_yes, any_some, any_none, one_number}
+use Rattle.rows.proofs.Listed.{any_some, any_none, one_number}
 use Rattle.sets.specs.Set.{object, clears}
 use Rattle.sets.specs.Table.{by_object_then_branch, mark_key, same_mark, row_of, table}
 use Rattle.sets.specs.declared.marks.Mark.{Mark}
 use Rattle.sets.specs.declared.marks.MarkKey.{MarkKey}
-use Rattle.sets.specs.Orders.{total_keys, same_true, same_itself, other_event}
-use Rattle.sets.specs.Lives.{key_of, at_key, MarksAt, cuts, Live, key_same, one_live, found_row, no_row, row_or_none, table_rises}
+use Rattle.sets.proofs.Orders.{same_true, same_itself, other_event, key_from_level, level_from_key}
+use Rattle.sets.proofs.Lives.{key_of, at_key, MarksAt, cuts, Live, key_same, one_live, found_row, no_row, row_or_none, table_rises}
 
 -- how the four rows at a key can lie, where the first part has no mark there that the second lacks
 data Side (l a b j : Option Mark) : Type 0 where
@@ -85,7 +85,7 @@ module _ (w : List Event) (hist : History w) (l a b j : Seen)
     mark = r.mark;
     last = λ f i s m. r.last f i (mark_in_b f i m s) m;
     uncut = λ c i s. elim (either c.number s) [
-      | inl x ↦ not_yes (cuts c e) (λ y. u c i x (cut_in c e i x y) y)
+      | inl x ↦ false_from_ne_true (cuts c e) (λ y. u c i x (cut_in c e i x y) y)
       | inr x ↦ r.uncut c i x
     ];
   }
@@ -168,18 +168,18 @@ module _ (w : List Event) (hist : History w) (a b : Seen) (ca : Closed a w) (cb 
   nested : (k : MarkKey) → ((e : Event) → In e w → MarksAt k e → a e.number ≡ true → b e.number ≡ true) ⊎ ((e : Event) → In e w → MarksAt k e → b e.number ≡ true → a e.number ≡ true)
   nested k =
       let test : Event → Bool = λ e. is_eq (by_object_then_branch (key_of e) k) && (a e.number && not (b e.number)) in
-      elim (cases_Bool (any test w)) [
+      elim (cases_Bool (list_any test w)) [
         | inr n ↦ inl (λ e i m s. elim (cases_Bool (b e.number)) [
           | inl y ↦ y
           | inr y ↦ absurd (both_ways (test e) (any_none test n i)
-              (and_from (is_eq (by_object_then_branch (key_of e) k)) (a e.number && not (b e.number)) (keys.eq_same by_object_then_branch total_keys (key_of e) k m.key)
+              (and_from (is_eq (by_object_then_branch (key_of e) k)) (a e.number && not (b e.number)) (level_from_key (key_of e) k m.key)
               (and_from (a e.number) (not (b e.number)) s (ap not y))))
         ])
         | inl y ↦
             let r = any_some test w y in
             let u = and_parts (is_eq (by_object_then_branch (key_of r.0) k)) (a r.0.number && not (b r.0.number)) r.2 in
             let v = and_parts (a r.0.number) (not (b r.0.number)) u.1 in
-            inr (λ f i m s. order r.0 f r.1 i (key_same r.0 f (keys.eq_true by_object_then_branch total_keys (key_of r.0) k u.0 ∙ sym m.key)).1 v.0 (not-true _ v.1) s)
+            inr (λ f i m s. order r.0 f r.1 i (key_same r.0 f (key_from_level (key_of r.0) k u.0 ∙ sym m.key)).1 v.0 (not-true _ v.1) s)
       ]
     where
       order : (e f : Event) → In e w → In f w → e.branch ≡ f.branch → a e.number ≡ true → b e.number ≡ false → b f.number ≡ true → a f.number ≡ true
@@ -201,10 +201,6 @@ module _ (w : List Event) (hist : History w) (a b : Seen) (ca : Closed a w) (cb 
           (λ n y. or_left (a n) (b n) y) (λ n y. or_right (a n) (b n) y) (λ n y. or_cases (a n) (b n) y) ca k h)
       | inr h ↦ from_side_swapped _ _ _ _ (side w hist (common a b) b a (joined a b)
           (λ n y. (and_parts (a n) (b n) y).1) (λ n y. (and_parts (a n) (b n) y).0) (λ n y z. and_from (a n) (b n) z y)
-          (λ n y. or_right (a n) (b n) y) (λ n y. or_left (a n) (b n) y) (λ n y. swap (or_cases (a n) (b n) y)) cb k h)
+          (λ n y. or_right (a n) (b n) y) (λ n y. or_left (a n) (b n) y) (λ n y. ⊎_swap (or_cases (a n) (b n) y)) cb k h)
     ];
   }
-    where
-      swap : {A B : Type 0} → A ⊎ B → B ⊎ A
-      swap (inl x) = inr x
-      swap (inr x) = inl x

@@ -1,6 +1,5 @@
 pub mod Set
 pub mod Table
 pub mod Form
-pub mod Orders
-pub mod Members
-pub mod Lives
+pub mod Fitting
+pub mod Verbs

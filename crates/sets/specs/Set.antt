@@ -1,9 +1,10 @@
 -- The set: which objects are marked. A mark stands until a clear that saw it.
 use Rattle.std.specs.Prelude.{ℕ, Bool, true, false, not, ◌&&◌, ◌||◌, List, length, ℤ, pos, filter, ◌==◌, nat_le, nat_lt}
+use Rattle.std.specs.List.{list_any}
 use Rattle.kinds.specs.Counter.{between}
 use Rattle.kinds.specs.Events.{Event}
 use Rattle.kinds.specs.Meaning.{Meaning}
-use Rattle.rows.specs.Lists.{any, natural}
+use Rattle.rows.specs.Lists.{natural}
 
 -- the object that an event speaks of
 abbrev pub object : Event → ℕ
@@ -23,7 +24,7 @@ clears o e = e.change.verb == 2 && object e == o
 
 -- some clear of its object, in the history, saw the mark
 abbrev pub cleared : List Event → Event → Bool
-cleared h e = any (λ f. clears (object e) f && f.saw e.number) h
+cleared h e = list_any (λ f. clears (object e) f && f.saw e.number) h
 
 -- the event is a live mark
 abbrev pub live : List Event → Event → Bool
@@ -31,11 +32,11 @@ live h e = is_mark e && not (cleared h e)
 
 -- an object is a member if it has a live mark
 abbrev pub member : List Event → ℕ → Bool
-member h o = any (λ e. live h e && object e == o) h
+member h o = list_any (λ e. live h e && object e == o) h
 
 -- the event's branch has no later mark of its object
 abbrev pub latest : List Event → Event → Bool
-latest h e = not (any (λ f. marks (object e) f && (f.branch == e.branch && nat_lt e.number f.number)) h)
+latest h e = not (list_any (λ f. marks (object e) f && (f.branch == e.branch && nat_lt e.number f.number)) h)
 
 -- The rows of a history: for an object and a branch, its latest mark of the object, where that is live.
 abbrev pub is_row : List Event → Event → Bool

@@ -1,9 +1,8 @@
 -- The rows of a set as a value keeps them: in the order of objects, and of branches at one object.
 use Rattle.std.specs.Prelude.{Bool, ◌&&◌, List, map, ◌==◌}
 use Rattle.std.specs.declared.cmp.Ordering.{Ordering}
-use Rattle.std.specs.Ordering.{ordering_then}
+use Rattle.std.specs.Ordering.{nat_cmp, ordering_then}
 use Rattle.kinds.specs.Events.{Event}
-use Rattle.rows.specs.Keys.{by_number}
 use Rattle.rows.specs.Rows.{rises}
 use Rattle.rows.specs.Sorted.{sorted}
 use Rattle.rows.specs.Walk.{walked}
@@ -13,7 +12,7 @@ use Rattle.sets.specs.declared.marks.MarkKey.{MarkKey}
 
 -- keys rise by object, then by branch
 abbrev pub by_object_then_branch : MarkKey → MarkKey → Ordering
-by_object_then_branch a b = ordering_then (by_number a.object b.object) (by_number a.branch b.branch)
+by_object_then_branch a b = ordering_then (nat_cmp a.object b.object) (nat_cmp a.branch b.branch)
 
 -- the key of a row
 abbrev pub mark_key : Mark → MarkKey

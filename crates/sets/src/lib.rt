@@ -6,3 +6,6 @@ mod set;
 mod set_kind;
 
 pub use marks::{EMPTY_ROW, Mark, SetForm};
+
+#[cfg(test)]
+mod tests;

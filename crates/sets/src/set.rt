@@ -1,121 +1,113 @@
-// The set value that a call works on: no two rows of it have the same object and branch.
-ghost use Rattle.std.specs.Prelude.{◌≡◌, ◌<◌, ◌≤◌, true, not, [], ◌∷◌, length, take, Some, None, filter, ◌==◌, ◌≢◌, nat_eq};
-ghost use Rattle.rows.specs.Lists.{any};
+// The set value that a call works on: its rows rise strictly by key, so that no two of them have the same object and branch.
+ghost use Rattle.std.specs.Prelude.{◌≡◌, ◌≤◌, true, not, [], ◌∷◌, length, filter, ◌==◌, nat_eq};
+ghost use Rattle.std.specs.List.{list_any};
 ghost use Rattle.sets.specs.Table.{in_order, join_of};
+ghost use Rattle.sets.specs.Form.{Checked, Fitted, Holds};
 
-use crate::marks::{EMPTY_ROW, Mark, SetForm};
+use crate::marks::{EMPTY_ROW, Mark, PLACES, SetForm};
+use kinds::KindFault;
 use rows::{join, rising};
+use std::marker::Model;
 
-#[derive(Clone, Copy)]
+#[derive(Drop)]
 pub struct SetValue {
-    rows: [Mark; 96],
+    rows: [Mark; PLACES],
     count: usize,
-    ghost ok: { (count ≤ 96) × (in_order (take count rows) ≡ true) },
 }
 
-// Whether a row of the object is there.
-fn holds(rows: &[Mark], object: u16) -> bool
-    ensures { result ≡ any (λ x. nat_eq x.object object) rows.now }
-{
-    for row in rows {
-        if row.object == object {
-            return true;
-        }
-    }
-    false
+impl Model for SetValue {
+    ghost use Rattle.std.specs.Prelude.{◌≡◌, ◌≤◌, true, List, take};
+    ghost use Rattle.sets.specs.declared.marks.Mark.{Mark as MarkRow};
+    ghost use Rattle.sets.specs.Table.{in_order};
+
+    ghost Value = { List MarkRow };
+
+    ghost view = { λ s. take s.count s.rows };
+
+    ghost invariant = { λ s. (s.count ≤ 96) × (in_order (take s.count s.rows) ≡ true) };
 }
 
-// Copies the rows of other objects, and says how many they are.
-fn without(rows: &[Mark], object: u16, out: &mut [Mark]) -> usize
-    requires { length rows.now ≤ length out.old }
-    ensures within { result ≤ length rows.now }
-    ensures kept { take result out.new ≡ filter (λ x. not (x.object == object)) rows.now }
-{
-    let mut count = 0;
-    for row in rows {
-        if row.object != object {
-            out[count] = *row;
-            count += 1;
+// The value of a form that passes the check: no more rows than places, strictly rising.
+impl TryFrom<&SetForm> for SetValue {
+    type Error = KindFault;
+
+    ghost try_from_gives = { λ form r. Checked form.now r };
+
+    fn try_from(form: &SetForm) -> Result<SetValue, KindFault> {
+        let SetForm { rows, count } = *form;
+        if count > PLACES || !rising(&rows[..count]) {
+            return Err(KindFault::DoesNotFit(0));
         }
+        Ok(SetValue { rows, count })
     }
-    count
+}
+
+impl From<SetValue> for SetForm {
+    ghost from_gives = { λ rows form. Holds form rows };
+
+    fn from(value: SetValue) -> SetForm {
+        let SetValue { rows, count } = value;
+        SetForm { rows, count }
+    }
 }
 
 impl SetValue {
-    // The value of a form that passes the check: no more rows than places, strictly rising.
-    pub fn checked(form: &SetForm) -> Option<SetValue>
-        ensures { elim result [ None ↦ (form.now.count ≤ 96 → in_order (take form.now.count form.now.rows) ≢ true) | Some v ↦ (v.rows ≡ form.now.rows) × (v.count ≡ form.now.count) ] }
-    {
-        if form.count > 96 {
-            return None;
-        }
-        if rising(&form.rows[0..form.count]) {
-            let rows = form.rows;
-            Some(SetValue {
-                rows,
-                count: form.count,
-            })
-        } else {
-            None
-        }
-    }
-
-    pub fn form(self) -> SetForm
-        ensures { (result.rows ≡ self.rows) × (result.count ≡ self.count) }
-    {
-        let rows = self.rows;
-        SetForm {
-            rows,
-            count: self.count,
-        }
-    }
-
     // The rows that are there.
     pub fn live(&self) -> &[Mark]
-        ensures { result.now ≡ take self.now.count self.now.rows }
+        ensures rows { result.now ≡ self.now }
+        ensures few { length result.now ≤ 96 }
+        ensures rising { in_order result.now ≡ true }
     {
-        &self.rows[0..self.count]
+        &self.rows[..self.count]
     }
 
     pub fn has(&self, object: u16) -> bool
-        ensures { result ≡ any (λ x. nat_eq x.object object) (take self.now.count self.now.rows) }
+        ensures { result ≡ list_any (λ x. nat_eq x.object object) self.now }
     {
-        holds(self.live(), object)
+        self.live().iter().any(|row| row.object == object)
     }
 
-    // The value of the rows that are joined: nothing where they are too many.
-    fn over(base: &[Mark], first: &[Mark], second: &[Mark]) -> Option<SetValue>
+    // The value of the rows that are joined, unless they are too many.
+    fn over(base: &[Mark], first: &[Mark], second: &[Mark]) -> Result<SetValue, KindFault>
         requires base { in_order base.now ≡ true }
         requires first { in_order first.now ≡ true }
         requires second { in_order second.now ≡ true }
-        ensures { elim result [ None ↦ 96 < length (join_of base.now first.now second.now) | Some v ↦ take v.count v.rows ≡ join_of base.now first.now second.now ] }
+        ensures { Fitted (join_of base.now first.now second.now) result }
     {
-        let mut rows = [EMPTY_ROW; 96];
-        match join(base, first, second, &mut rows) {
-            Some(count) => Some(SetValue { rows, count }),
-            None => None,
-        }
+        let mut rows = [EMPTY_ROW; PLACES];
+        let count = join(base, first, second, &mut rows).ok_or(KindFault::DoesNotFit(0))?;
+        Ok(SetValue { rows, count })
     }
 
     // The value with a row put in, in place of the one with its key.
-    pub fn marked(&self, row: Mark) -> Option<SetValue>
-        ensures { elim result [ None ↦ 96 < length (join_of [] (row ∷ []) (take self.now.count self.now.rows)) | Some v ↦ take v.count v.rows ≡ join_of [] (row ∷ []) (take self.now.count self.now.rows) ] }
+    #[tactic(auto, unfolding(rows::specs::Rows::rises_over))]
+    pub fn marked(&self, row: Mark) -> Result<SetValue, KindFault>
+        ensures { Fitted (join_of [] (row ∷ []) self.now) result }
     {
         SetValue::over(&[], &[row], self.live())
     }
 
-    // The value without the rows of an object, whatever their branch.
+    // The value without the rows of an object, whatever their branch. With no heap there is no list to collect the others into: they are
+    // written into an array, and counted.
     pub fn cleared(&self, object: u16) -> SetValue
-        ensures { take result.count result.rows ≡ filter (λ x. not (x.object == object)) (take self.now.count self.now.rows) }
+        ensures { result ≡ filter (λ x. not (x.object == object)) self.now }
     {
-        let mut rows = [EMPTY_ROW; 96];
-        let count = without(self.live(), object, &mut rows);
+        let mut rows = [EMPTY_ROW; PLACES];
+        let mut count = 0;
+        for row in self.live().iter().filter(|row| row.object != object) {
+            rows[count] = *row;
+            count += 1;
+        }
         SetValue { rows, count }
     }
 
     // Two values joined over their base.
-    pub fn joined(base: &SetValue, first: &SetValue, second: &SetValue) -> Option<SetValue>
-        ensures { elim result [ None ↦ 96 < length (join_of (take base.now.count base.now.rows) (take first.now.count first.now.rows) (take second.now.count second.now.rows)) | Some v ↦ take v.count v.rows ≡ join_of (take base.now.count base.now.rows) (take first.now.count first.now.rows) (take second.now.count second.now.rows) ] }
+    pub fn joined(
+        base: &SetValue,
+        first: &SetValue,
+        second: &SetValue,
+    ) -> Result<SetValue, KindFault>
+        ensures { Fitted (join_of base.now first.now second.now) result }
     {
         SetValue::over(base.live(), first.live(), second.live())
     }

@@ -1,124 +1,101 @@
 // The set as a kind: each call checks the plain form, makes the set value, works on that, and writes the plain form back whole.
-ghost use Rattle.std.specs.Prelude.{◌≡◌, true, false, pos, Some, None, Ok};
-ghost use Rattle.sets.specs.Set.{object_set, bit as bit_of};
+ghost use Rattle.std.specs.Prelude.{◌≡◌, true, false, pos, Ok, MatchOption};
+ghost use Rattle.sets.specs.Set.{bit as bit_of, object_set};
 ghost use Rattle.sets.specs.Form.{Represents};
-ghost use Rattle.sets.specs.Members;
+ghost use Rattle.sets.specs.Verbs.{number_of};
+ghost use Rattle.sets.specs.Fitting;
 
-use crate::marks::{EMPTY_ROW, Mark, SetForm};
+use crate::marks::{EMPTY_ROW, Mark, PLACES, SetForm};
 use crate::set::SetValue;
 use kinds::{Change, Kind, KindFault, Question, Stamp};
 
-const MARK: u8 = 1;
-
-const CLEAR: u8 = 2;
+// What a change does with an object.
+#[derive(Clone, Copy)]
+enum Verb {
+    Mark,
+    Clear,
+}
 
 const MEMBER: u8 = 1;
 
-// The object that a change speaks of, where the kind knows the change.
-fn changed(change: Change) -> Option<u16>
-    ensures { elim result [ None ↦ object_set.knows change ≡ false | Some o ↦ (object_set.knows change ≡ true) × (change.argument ≡ pos o) ] }
+// The verb of a change and the object that it speaks of, where the kind knows the change.
+fn changed(change: Change) -> Option<(Verb, u16)>
+    ensures { MatchOption result (object_set.knows change ≡ false) (λ p. (object_set.knows change ≡ true) × (change.verb ≡ number_of p.0) × (change.argument ≡ pos p.1)) }
 {
-    if change.place != 0 {
-        return None;
-    }
-    if change.verb != MARK && change.verb != CLEAR {
-        return None;
-    }
-    if change.argument < 0 || change.argument > 65_535 {
-        return None;
-    }
-    Some(change.argument as u16)
+    let verb = match change.verb {
+        1 => Verb::Mark,
+        2 => Verb::Clear,
+        _ => return None,
+    };
+    let object = u16::try_from(change.argument).ok()?;
+    (change.place == 0).then_some((verb, object))
 }
 
 // The object that a question asks for, where the kind knows the question.
 fn asked(question: Question) -> Option<u16>
-    ensures { elim result [ None ↦ object_set.hears question ≡ false | Some o ↦ (object_set.hears question ≡ true) × (question.argument ≡ pos o) ] }
+    ensures { MatchOption result (object_set.hears question ≡ false) (λ o. (object_set.hears question ≡ true) × (question.argument ≡ pos o)) }
 {
-    if question.place != 0 || question.verb != MEMBER {
-        return None;
+    if question.place == 0 && question.verb == MEMBER {
+        u16::try_from(question.argument).ok()
+    } else {
+        None
     }
-    if question.argument < 0 || question.argument > 65_535 {
-        return None;
-    }
-    Some(question.argument as u16)
 }
 
 // Yes or no, as a reply or an answer.
 fn told(yes: bool) -> Result<i64, KindFault>
     ensures { result ≡ Ok (bit_of yes) }
 {
-    if yes { Ok(1) } else { Ok(0) }
+    Ok(i64::from(yes))
 }
 
 impl Kind for SetForm {
     const NUMBER: u16 = 2;
 
-    ghost number = { 2 };
+    ghost NUMBER = { 2 };
 
     ghost meaning = { object_set };
 
     ghost represents = { Represents };
 
-    ghost fitting = { Members.fitting };
+    ghost fitting = { Fitting.fitting };
 
-    fn kind_number() -> u16 {
-        Self::NUMBER
-    }
-
+    #[tactic(auto, unfolding(rows::specs::Rows::rises_over, rows::specs::Sorted::sorted, crate::specs::Table::table))]
     fn empty() -> SetForm {
-        let rows = [EMPTY_ROW; 96];
-        SetForm { rows, count: 0 }
+        SetForm {
+            rows: [EMPTY_ROW; PLACES],
+            count: 0,
+        }
     }
 
     // A form that fails the check stands for no history: a known change of it is refused as one that doesn't fit.
     fn change(&mut self, stamp: Stamp, change: Change) -> Result<i64, KindFault> {
-        let Some(object) = changed(change) else {
-            return Err(KindFault::UnknownChange(change.place));
-        };
-        let Some(value) = SetValue::checked(self) else {
-            return Err(KindFault::DoesNotFit(0));
-        };
+        let (verb, object) = changed(change).ok_or(KindFault::UnknownChange(change.place))?;
+        let value = SetValue::try_from(&*self)?;
         let was = value.has(object);
-        if change.verb == MARK {
-            let row = Mark {
+        let later = match verb {
+            Verb::Mark => value.marked(Mark {
                 object,
                 branch: stamp.branch,
                 event: stamp.event,
-            };
-            let Some(later) = value.marked(row) else {
-                return Err(KindFault::DoesNotFit(0));
-            };
-            *self = later.form();
-            return told(was);
-        }
-        *self = value.cleared(object).form();
+            })?,
+            Verb::Clear => value.cleared(object),
+        };
+        *self = later.into();
         told(was)
     }
 
     fn merge(base: &SetForm, first: &SetForm, second: &SetForm) -> Result<SetForm, KindFault> {
-        let Some(old) = SetValue::checked(base) else {
-            return Err(KindFault::DoesNotFit(0));
-        };
-        let Some(ours) = SetValue::checked(first) else {
-            return Err(KindFault::DoesNotFit(0));
-        };
-        let Some(theirs) = SetValue::checked(second) else {
-            return Err(KindFault::DoesNotFit(0));
-        };
-        match SetValue::joined(&old, &ours, &theirs) {
-            Some(value) => Ok(value.form()),
-            None => Err(KindFault::DoesNotFit(0)),
-        }
+        let old = SetValue::try_from(base)?;
+        let ours = SetValue::try_from(first)?;
+        let theirs = SetValue::try_from(second)?;
+        SetValue::joined(&old, &ours, &theirs).map(SetForm::from)
     }
 
     // A form that fails the check is answered as the empty set is.
     fn answer(&self, question: Question) -> Result<i64, KindFault> {
-        let Some(object) = asked(question) else {
-            return Err(KindFault::UnknownQuestion(question.place));
-        };
-        match SetValue::checked(self) {
-            Some(value) => told(value.has(object)),
-            None => told(false),
-        }
+        let object = asked(question).ok_or(KindFault::UnknownQuestion(question.place))?;
+        let member = SetValue::try_from(self).is_ok_and(|value| value.has(object));
+        told(member)
     }
 }

@@ -1,38 +1,54 @@
 -- The store's own questions, by what stands in a ledger.
-use Rattle.std.proofs.Common.{◌≡◌, ℕ, ◌<◌, ◌≤◌, min, false, ltb, List, length, get_or, Ok, Err, Result, sym, ap, ◌∙◌, ap₂, arith}
-use Rattle.std.proofs.lemmas.Bool.{lt-ltb, le-ltb, cond-true, cond-false}
+use Rattle.std.proofs.Common.{◌≡◌, ℕ, ◌<◌, ◌≤◌, min, Bool, true, false, ltb, nat_eq, List, [], length, get_or, take, Option, Some, None, MatchOption, Ok, Err, Result, position, refl, sym, ap, ◌∙◌, subst, ap₂, ⊎_elim, arith}
+use lib.Pointwise.{pointwise, bytes_decides}
+use Rattle.std.specs.Cmp.Lexicographic.{same_text}
+use Rattle.std.specs.List.{position_or_len}
+use Rattle.std.specs.Option.{ok_or}
+use Rattle.std.proofs.lemmas.Bool.{lt-ltb, le-ltb, both_ways, cases_lt, cond-true, cond-false}
+use Rattle.std.proofs.lemmas.List.{get_or-take, get_or_past, ext_get_or}
+use Rattle.std.proofs.lemmas.List.Quantifiers.{position-Some}
+use Rattle.std.proofs.lemmas.List.Sums.{fails_before_first}
 use Rattle.kinds.specs.Events.{Seen, common, nothing}
 use Rattle.calls.specs.declared.calls.Meeting.{Meeting}
 use Rattle.calls.specs.declared.calls.Meeting.TheVariants.{Seen as Met, Apart}
 use Rattle.calls.specs.declared.fault.StoreFault.{StoreFault}
 use Rattle.calls.specs.declared.fault.StoreFault.TheVariants.{NoVersion, NotStored, BranchesFull, NoBranch, NoSource, VersionsFull, NoBase}
+use Rattle.kinds.specs.declared.kind.Kind.{Ghosts}
 use Rattle.store.specs.declared.store.Store.{Store}
 use Rattle.calls.specs.World.{World, seen_by, inside, stored, lowest}
 use Rattle.store.specs.Book.{world}
 use Rattle.calls.specs.Counts.{tally}
-use Rattle.calls.specs.Outcome.{asked, started, spare, forking, asking, changing, merging}
+use Rattle.calls.specs.Outcome.{asked, started, spare, forking, asking, merging}
 use Rattle.store.specs.Views.{book, record_at}
 use Rattle.calls.proofs.Inversions.{asked_yes, asked_no, asking_ok, meeting}
-use Rattle.store.proofs.Books.{sound_of, made_of, branches_of, head_at, head_below, count_at, head_count}
+use Rattle.calls.specs.declared.calls.Version.{Version}
+use Rattle.store.proofs.Books.{sound_of, made_of, made_long, branches_of, head_at, head_below, record_long, count_at, head_count}
 use Rattle.calls.proofs.Questions.{Base, inside_yes, inside_no, stored_yes, stored_no, lowest_is}
 
-module _ {A : Type 0} (s : Store A) where
+-- where a test has no place at all, it fails at each
+no_position : {A : Type 0} (p : A → Bool) (xs : List A) → position p xs ≡ None → (i : ℕ) (d : A) → i < length xs → p (get_or xs i d) ≡ true → ⊥
+no_position p xs none i d l h = ⊎_elim
+    (λ (some : position_or_len p xs < length xs).
+    let found = cond-true (ltb (position_or_len p xs) (length xs)) (Some (position_or_len p xs)) None (lt-ltb (position_or_len p xs) (length xs) some) in cc)
+    (λ (all : length xs ≤ position_or_len p xs). both_ways (p (get_or xs i d)) (fails_before_first p xs i d (omega arith)) h)
+    (cases_lt (position_or_len p xs) (length xs))
+
+-- what `ok_or` refuses
+pub refused_by : (o : Option ℕ) (f e : StoreFault) → Err e ≡ ok_or o f → (o ≡ None) × (e ≡ f)
+refused_by None f e q = (refl, cc)
+refused_by (Some x) f e q = (cc, cc)
+
+module _ {A : Type 0} {κ : Ghosts A} (s : Store A κ) where
   abbrev w : World
   w = world (book s)
 
   -- ---- one question
   module _ {B : Type 0} (next : Result B StoreFault) where
-    unstarted : s.made ≡ 0 → started w next ≡ Err NoVersion
-    unstarted l = asked_no (ltb 0 (length w.versions)) NoVersion next (le-ltb 0 (length w.versions) (omega (arith, made_of s)))
-
     is_started : 0 < s.made → started w next ≡ next
     is_started l = asked_yes (ltb 0 (length w.versions)) NoVersion next (lt-ltb 0 (length w.versions) (omega (arith, made_of s)))
 
     has_branch : (b : ℕ) (f : StoreFault) → b < s.branches → asked (ltb b (length w.heads)) f next ≡ next
     has_branch b f l = asked_yes (ltb b (length w.heads)) f next (lt-ltb b (length w.heads) (omega (arith, branches_of s)))
-
-    no_branch : (b : ℕ) (f : StoreFault) → s.branches ≤ b → asked (ltb b (length w.heads)) f next ≡ Err f
-    no_branch b f l = asked_no (ltb b (length w.heads)) f next (le-ltb b (length w.heads) (omega (arith, branches_of s)))
 
     has_room : (b : ℕ) → s.made < s.usable → spare s.usable w b next ≡ next
     has_room b l = asked_yes (ltb (length w.versions) s.usable) (VersionsFull b) next (lt-ltb (length w.versions) s.usable (omega (arith, made_of s)))
@@ -44,39 +60,15 @@ module _ {A : Type 0} (s : Store A) where
       started w (asked (ltb b (length w.heads)) f next) ≡ next
   started_at next b f l = is_started (asked (ltb b (length w.heads)) f next) (omega (arith, head_below s b l)) ∙ has_branch next b f l
 
-  -- ---- the head of a branch
-  module _ (b : ℕ) where
-    pub asking_none : s.made ≡ 0 → Err NoVersion ≡ asking w b
-    asking_none l = sym (unstarted (asked (ltb b (length w.heads)) (NoBranch b) (Ok (get_or w.heads b 0))) l)
-
-    pub asking_nowhere : 0 < s.made → s.branches ≤ b → Err (NoBranch b) ≡ asking w b
-    asking_nowhere l n =
-        sym (is_started (asked (ltb b (length w.heads)) (NoBranch b) (Ok (get_or w.heads b 0))) l ∙ no_branch (Ok (get_or w.heads b 0)) b (NoBranch b) n)
-
-    pub asking_head : b < s.branches → Ok (get_or s.heads b 0) ≡ asking w b
-    asking_head l = ap Ok (head_at s b l) ∙ sym (started_at (Ok (get_or w.heads b 0)) b (NoBranch b) l)
-
   -- ---- a fork
   module _ (v : ℕ) where
     abbrev branch-more : Result ℕ StoreFault
     branch-more = asked (ltb (length w.heads) 16) BranchesFull (Ok (length w.heads))
 
-    pub forking_none : s.made ≡ 0 → Err NoVersion ≡ forking w v
-    forking_none l = sym (unstarted (asked (ltb v (length w.versions)) (NotStored v) branch-more) l)
-
-    pub forking_missing : 0 < s.made → s.made ≤ v → Err (NotStored v) ≡ forking w v
-    forking_missing l n =
-        sym (is_started (asked (ltb v (length w.versions)) (NotStored v) branch-more) l
-        ∙ asked_no (ltb v (length w.versions)) (NotStored v) branch-more (le-ltb v (length w.versions) (omega (arith, made_of s))))
-
     at_version : v < s.made → forking w v ≡ branch-more
     at_version l =
         is_started (asked (ltb v (length w.versions)) (NotStored v) branch-more) (omega arith)
         ∙ asked_yes (ltb v (length w.versions)) (NotStored v) branch-more (lt-ltb v (length w.versions) (omega (arith, made_of s)))
-
-    pub forking_full : v < s.made → 16 ≤ s.branches → Err BranchesFull ≡ forking w v
-    forking_full l n =
-        sym (at_version l ∙ asked_no (ltb (length w.heads) 16) BranchesFull (Ok (length w.heads)) (le-ltb (length w.heads) 16 (omega (arith, branches_of s))))
 
     pub forking_made : v < s.made → s.branches < 16 → Ok s.branches ≡ forking w v
     forking_made l n =
@@ -84,7 +76,7 @@ module _ {A : Type 0} (s : Store A) where
         ∙ sym (at_version l ∙ asked_yes (ltb (length w.heads) 16) BranchesFull (Ok (length w.heads)) (lt-ltb (length w.heads) 16 (omega (arith, branches_of s))))
 
 -- ---- a call on a branch that is there
-module _ {A : Type 0} (s : Store A) (d first : ℕ) (at : Ok first ≡ asking (world (book s)) d) where
+module _ {A : Type 0} {κ : Ghosts A} (s : Store A κ) (d first : ℕ) (at : Ok first ≡ asking (world (book s)) d) where
   abbrev v : World
   v = world (book s)
 
@@ -97,81 +89,109 @@ module _ {A : Type 0} (s : Store A) (d first : ℕ) (at : Ok first ≡ asking (w
   pub first_below : first < s.made
   first_below = omega (arith, first_is, head_at s d there, head_below s d there)
 
-  pub changing_full : s.usable ≤ s.made → Err (VersionsFull d) ≡ changing s.usable v d
-  changing_full l =
-      sym (started_at s (spare s.usable v d (Ok (get_or v.heads d 0))) d (NoBranch d) there ∙ no_room s (Ok (get_or v.heads d 0)) d l)
-
-  pub changing_head : s.made < s.usable → Ok first ≡ changing s.usable v d
-  changing_head l =
-      ap Ok first_is
-      ∙ sym (started_at s (spare s.usable v d (Ok (get_or v.heads d 0))) d (NoBranch d) there ∙ has_room s (Ok (get_or v.heads d 0)) d l)
-
   -- ---- a merge from another branch
-  module _ (f : ℕ) where
+  module _ (f second : ℕ) (r : Option ℕ) (read : MatchOption r (s.branches ≤ f) (λ head. (f < s.branches) × (head ≡ get_or s.heads f 0))) (some : r ≡ Some second) where
+    source : (f < s.branches) × (second ≡ get_or s.heads f 0)
+    source = subst (λ o. MatchOption o (s.branches ≤ f) (λ head. (f < s.branches) × (head ≡ get_or s.heads f 0))) some read
+
     abbrev past-source : Result Meeting StoreFault
     past-source = asked (ltb f (length v.heads)) (NoSource f) (meeting s.usable v d f)
 
-    pub merging_sourceless : s.branches ≤ f → Err (NoSource f) ≡ merging s.usable v d f
-    merging_sourceless l = sym (started_at s past-source d (NoBranch d) there ∙ no_branch s (meeting s.usable v d f) f (NoSource f) l)
+    pub second_below : second < s.made
+    second_below = omega (arith, source.1, head_below s f source.0)
 
-    module _ (fl : f < s.branches) (ours theirs : List ℕ) (o : ours ≡ (record_at s first).counts) (t : theirs ≡ (record_at s (get_or s.heads f 0)).counts) where
-      merging_met : merging s.usable v d f ≡ meeting s.usable v d f
-      merging_met = started_at s past-source d (NoBranch d) there ∙ has_branch s (meeting s.usable v d f) f (NoSource f) fl
+    merging_met : merging s.usable v d f ≡ meeting s.usable v d f
+    merging_met = started_at s past-source d (NoBranch d) there ∙ has_branch s (meeting s.usable v d f) f (NoSource f) source.0
 
-      ours_are : (x : ℕ) → get_or ours x 0 ≡ tally v.events (seen_by v d) x
-      ours_are x =
-          ap (λ (l : List ℕ). get_or l x 0) o ∙ count_at s first x first_below
-          ∙ ap (λ (i : ℕ). tally v.events (get_or v.versions i nothing) x) first_is
+    abbrev ours : List ℕ
+    ours = (record_at s first).counts
 
-      theirs_are : (x : ℕ) → get_or theirs x 0 ≡ tally v.events (seen_by v f) x
-      theirs_are x = ap (λ (l : List ℕ). get_or l x 0) t ∙ head_count s f x fl
+    abbrev theirs : List ℕ
+    theirs = (record_at s second).counts
 
-      pub merging_seen : ((x : ℕ) → get_or theirs x 0 ≤ get_or ours x 0) → Ok (Met first) ≡ merging s.usable v d f
-      merging_seen low =
-          ap (λ (i : ℕ). Ok (Met i)) first_is
-          ∙ sym (merging_met ∙ cond-true (inside v.events (seen_by v f) (seen_by v d)) _ _
-          (inside_yes v (sound_of s) d f (λ x. omega (arith, low x, ours_are x, theirs_are x))))
+    ours_are : (x : ℕ) → get_or ours x 0 ≡ tally v.events (seen_by v d) x
+    ours_are x = count_at s first x first_below ∙ ap (λ (i : ℕ). tally v.events (get_or v.versions i nothing) x) first_is
 
-      module _ (low : List ℕ) (lows : (x : ℕ) → get_or low x 0 ≡ min (get_or ours x 0) (get_or theirs x 0))
-          (high : ((x : ℕ) → get_or theirs x 0 ≤ get_or ours x 0) → ⊥) where
-        abbrev Counts-at : ℕ → Type 0
-        Counts-at i = (x : ℕ) → get_or (record_at s i).counts x 0 ≡ get_or low x 0
+    theirs_are : (x : ℕ) → get_or theirs x 0 ≡ tally v.events (seen_by v f) x
+    theirs_are x = ap (λ (i : ℕ). get_or (record_at s i).counts x 0) source.1 ∙ head_count s f x source.0
 
-        apart : inside v.events (seen_by v f) (seen_by v d) ≡ false
-        apart = inside_no v (sound_of s) d f (λ k. high (λ x. omega (arith, k x, ours_are x, theirs_are x)))
+    pub merging_seen : ((x : ℕ) → get_or theirs x 0 ≤ get_or ours x 0) → Ok (Met first) ≡ merging s.usable v d f
+    merging_seen low =
+        ap (λ (i : ℕ). Ok (Met i)) first_is
+        ∙ sym (merging_met ∙ cond-true (inside v.events (seen_by v f) (seen_by v d)) _ _
+        (inside_yes v (sound_of s) d f (λ x. omega (arith, low x, ours_are x, theirs_are x))))
 
-        base_of : (i : ℕ) → i < s.made → Counts-at i → Base v (sound_of s) d f i
-        base_of i l h x = omega (arith, h x, lows x, ours_are x, theirs_are x, count_at s i x l)
+    module _ (low : List ℕ) (sixteen : length low ≡ 16) (lows : (x : ℕ) → x < 16 → get_or low x 0 ≡ min (get_or ours x 0) (get_or theirs x 0))
+        (high : ((x : ℕ) → get_or theirs x 0 ≤ get_or ours x 0) → ⊥) where
+      low_is : (x : ℕ) → get_or low x 0 ≡ min (get_or ours x 0) (get_or theirs x 0)
+      low_is x = ⊎_elim
+          (λ (l : x < 16). lows x l)
+          (λ (l : 16 ≤ x). omega (
+            arith,
+            get_or_past low x 0 (omega (arith, sixteen)),
+            get_or_past ours x 0 (omega (arith, record_long s first first_below)),
+            get_or_past theirs x 0 (omega (arith, record_long s second second_below)),
+          ))
+          (cases_lt x 16)
 
-        of_base : (i : ℕ) → i < s.made → Base v (sound_of s) d f i → Counts-at i
-        of_base i l h x = omega (arith, h x, lows x, ours_are x, theirs_are x, count_at s i x l)
+      -- a version that has seen just what low says
+      abbrev Seen-low : Version → Bool
+      Seen-low r = pointwise nat_eq r.counts low
 
-        abbrev shared : Seen
-        shared = common (seen_by v d) (seen_by v f)
+      apart : inside v.events (seen_by v f) (seen_by v d) ≡ false
+      apart = inside_no v (sound_of s) d f (λ k. high (λ x. omega (arith, k x, ours_are x, theirs_are x)))
 
-        abbrev met : Result Meeting StoreFault
-        met = Ok (Apart (lowest v.events shared v.versions) (get_or v.heads d 0) (get_or v.heads f 0))
+      base_of : (i : ℕ) → i < s.made → Seen-low (record_at s i) ≡ true → Base v (sound_of s) d f i
+      base_of i l h x =
+          let e : get_or (record_at s i).counts x 0 ≡ get_or low x 0 = ap (λ (r : List ℕ). get_or r x 0) (same_text (record_at s i).counts low (sym h)) in
+          omega (arith, e, low_is x, ours_are x, theirs_are x, count_at s i x l)
 
-        pub merging_baseless : ((i : ℕ) → i < s.made → Counts-at i → ⊥) → Err (NoBase d) ≡ merging s.usable v d f
-        merging_baseless none =
-            sym (merging_met ∙ cond-false (inside v.events (seen_by v f) (seen_by v d)) _ _ apart
-            ∙ asked_no (stored v.events shared v.versions) (NoBase d) (spare s.usable v d met)
-            (stored_no v (sound_of s) d f (λ i l b. let m : i < s.made = omega (arith, made_of s) in none i m (of_base i m b))))
+      of_base : (i : ℕ) → i < s.made → Base v (sound_of s) d f i → Seen-low (record_at s i) ≡ true
+      of_base i l h = (bytes_decides (record_at s i).counts low).1
+          (ext_get_or 0 (record_at s i).counts low (record_long s i l ∙ sym sixteen) (λ x _. omega (arith, h x, low_is x, ours_are x, theirs_are x, count_at s i x l)))
 
-        module _ (i : ℕ) (il : i < s.made) (here : Counts-at i) where
-          based : merging s.usable v d f ≡ spare s.usable v d met
-          based =
-              merging_met ∙ cond-false (inside v.events (seen_by v f) (seen_by v d)) _ _ apart
-              ∙ asked_yes (stored v.events shared v.versions) (NoBase d) (spare s.usable v d met)
-              (stored_yes v (sound_of s) d f i (omega (arith, made_of s)) (base_of i il here))
+      abbrev shared : Seen
+      shared = common (seen_by v d) (seen_by v f)
 
-          pub merging_full : s.usable ≤ s.made → Err (VersionsFull d) ≡ merging s.usable v d f
-          merging_full l = sym (based ∙ no_room s met d l)
+      abbrev met : Result Meeting StoreFault
+      met = Ok (Apart (lowest v.events shared v.versions) (get_or v.heads d 0) (get_or v.heads f 0))
 
-          pub merging_from : s.made < s.usable → ((j : ℕ) → j < i → Counts-at j → ⊥) →
-              Ok (Apart i first (get_or s.heads f 0)) ≡ merging s.usable v d f
-          merging_from l first_one =
-              ap (λ (z : ℕ). Ok (Apart z first (get_or s.heads f 0)))
-              (sym (lowest_is v (sound_of s) d f i (omega (arith, made_of s)) (base_of i il here) (λ j k b. first_one j k (of_base j (omega arith) b))))
-              ∙ ap₂ (λ (y z : ℕ). Ok (Apart (lowest v.events shared v.versions) y z)) first_is (head_at s f fl)
-              ∙ sym (based ∙ has_room s met d l)
+      pub merging_baseless : position Seen-low (take s.made s.versions.now) ≡ None → Err (NoBase d) ≡ merging s.usable v d f
+      merging_baseless none =
+          sym (merging_met ∙ cond-false (inside v.events (seen_by v f) (seen_by v d)) _ _ apart
+          ∙ asked_no (stored v.events shared v.versions) (NoBase d) (spare s.usable v d met)
+          (stored_no v (sound_of s) d f (λ i l b.
+          let m : i < s.made = omega (arith, made_of s) in
+          no_position Seen-low (take s.made s.versions.now) none i (record { counts = [] }) (omega (arith, m, made_long s))
+          (ap Seen-low (get_or-take s.made s.versions.now i (record { counts = [] }) m) ∙ of_base i m b))))
+
+      module _ (i : ℕ) (found : position Seen-low (take s.made s.versions.now) ≡ Some i) where
+        first-one : (i < length (take s.made s.versions.now)) × (Seen-low (get_or (take s.made s.versions.now) i (record { counts = [] })) ≡ true)
+            × ((k : ℕ) → k < i → Seen-low (get_or (take s.made s.versions.now) k (record { counts = [] })) ≡ false)
+        first-one = position-Some Seen-low (take s.made s.versions.now) i (record { counts = [] }) found
+
+        il : i < s.made
+        il = omega (arith, first-one.0, made_long s)
+
+        here : Base v (sound_of s) d f i
+        here = base_of i il (ap Seen-low (sym (get_or-take s.made s.versions.now i (record { counts = [] }) il)) ∙ first-one.1)
+
+        not-before : (j : ℕ) → j < i → Base v (sound_of s) d f j → ⊥
+        not-before j k b =
+            let m : j < s.made = omega (arith, il) in
+            both_ways (Seen-low (record_at s j)) (ap Seen-low (sym (get_or-take s.made s.versions.now j (record { counts = [] }) m)) ∙ first-one.2 j k) (of_base j m b)
+
+        based : merging s.usable v d f ≡ spare s.usable v d met
+        based =
+            merging_met ∙ cond-false (inside v.events (seen_by v f) (seen_by v d)) _ _ apart
+            ∙ asked_yes (stored v.events shared v.versions) (NoBase d) (spare s.usable v d met)
+            (stored_yes v (sound_of s) d f i (omega (arith, made_of s, il)) here)
+
+        pub merging_full : s.usable ≤ s.made → Err (VersionsFull d) ≡ merging s.usable v d f
+        merging_full l = sym (based ∙ no_room s met d l)
+
+        pub merging_from : s.made < s.usable → Ok (Apart i first second) ≡ merging s.usable v d f
+        merging_from l =
+            ap (λ (z : ℕ). Ok (Apart z first second)) (sym (lowest_is v (sound_of s) d f i (omega (arith, made_of s, il)) here not-before))
+            ∙ ap₂ (λ (y z : ℕ). Ok (Apart (lowest v.events shared v.versions) y z)) first_is (source.1 ∙ head_at s f source.0)
+            ∙ sym (based ∙ has_room s met d l)

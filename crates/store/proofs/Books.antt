@@ -7,6 +7,7 @@ use Rattle.kinds.specs.Events.{nothing}
 use Rattle.calls.specs.declared.calls.Action.{Action}
 use Rattle.calls.specs.declared.calls.Step.{Step}
 use Rattle.calls.specs.declared.calls.Version.{Version}
+use Rattle.kinds.specs.declared.kind.Kind.{Ghosts}
 use Rattle.store.specs.declared.store.Store.{Store}
 use Rattle.calls.specs.World.{World, advance, opened, seen_by}
 use Rattle.calls.specs.Run.{advances, possible, all_possible}
@@ -40,14 +41,16 @@ module _ (V : ℕ) (ss : List Step) (n : ℕ) (s : Step) (l : n < length ss) whe
   still_possible all one = ap (all_possible V (opened V)) actions_more ∙ possible_more V (opened V) (actions ss n) s.action all one
 
 -- ---- what is read from a ledger
-module _ {A : Type 0} (s : Store A) where
+module _ {A : Type 0} {κ : Ghosts A} (s : Store A κ) where
   pub sound_of : Sound (world (book s))
   sound_of = sound_after s.usable (opened s.usable) (actions s.steps.now s.taken) s.small (sound_opened s.usable) s.possible
 
+  pub made_long : length (take s.made s.versions.now) ≡ s.made
+  made_long = length-take-le s.made s.versions.now (omega (arith, s.within, s.versioned))
+
   pub made_of : length (world (book s)).versions ≡ s.made
   made_of =
-      sym (length-map (world (book s)).versions (record_of (world (book s)).events)) ∙ ap length (sym s.recorded)
-      ∙ length-take-le s.made s.versions.now (omega (arith, s.within, s.versioned))
+      sym (length-map (world (book s)).versions (record_of (world (book s)).events)) ∙ ap length (sym s.recorded) ∙ made_long
 
   pub branches_of : length (world (book s)).heads ≡ s.branches
   branches_of = ap length (sym s.standing) ∙ length-take-le s.branches s.heads (omega (arith, s.few, s.sixteen))
@@ -65,6 +68,9 @@ module _ {A : Type 0} (s : Store A) where
       sym (get_or-take s.made s.versions.now i (record { counts = [] }) l)
       ∙ ap (λ (rs : List Version). get_or rs i (record { counts = [] })) s.recorded
       ∙ get_or-map (record_of (world (book s)).events) (world (book s)).versions i nothing (record { counts = [] }) (let e = made_of in omega arith)
+
+  pub record_long : (i : ℕ) → i < s.made → length (record_at s i).counts ≡ 16
+  record_long i l = ap (λ (r : Version). length r.counts) (record_is i l)
 
   pub count_at : (i b : ℕ) → i < s.made → get_or (record_at s i).counts b 0 ≡ tally (world (book s)).events (get_or (world (book s)).versions i nothing) b
   count_at i b l = ap (λ (r : Version). get_or r.counts b 0) (record_is i l) ∙ count_is (world (book s)) sound_of (get_or (world (book s)).versions i nothing) b

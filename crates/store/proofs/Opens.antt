@@ -1,5 +1,5 @@
 -- The opened store.
-use Rattle.std.proofs.Common.{◌≡◌, ℕ, zero, suc, ◌<◌, ◌≤◌, true, List, [], ◌∷◌, length, take, set, replicate, sym, refl, ap, ◌∙◌, subst, arith}
+use Rattle.std.proofs.Common.{◌≡◌, ℕ, zero, suc, ◌<◌, true, List, [], ◌∷◌, length, take, set, replicate, sym, refl, ap, ◌∙◌, subst, arith}
 use Rattle.std.proofs.lemmas.List.{take_more_set}
 use Rattle.kinds.specs.Events.{Event, nothing, pick}
 use Rattle.kinds.specs.Meaning.{Meaning, Known}
@@ -48,36 +48,10 @@ root_book k zero some = absurd (omega arith)
 root_book k (suc V) some =
     ap (λ (r : Version). record { usable = suc V; versions = set k.versions 0 r; made = 1; steps = k.steps; taken = 0; heads = set k.heads 0 0; branches = 1; events = 0 }) zeros_is
 
--- ---- with no room at all
-pub none_recorded : (vs : List Version) (ss : List Step) → take 0 vs ≡ records_of (told 0 ss 0)
-none_recorded [] [] = refl
-none_recorded [] (s ∷ ss) = refl
-none_recorded (v ∷ vs) [] = refl
-none_recorded (v ∷ vs) (s ∷ ss) = refl
-
-pub none_standing : (hs : List ℕ) (ss : List Step) → take 0 hs ≡ (told 0 ss 0).heads
-none_standing [] [] = refl
-none_standing [] (s ∷ ss) = refl
-none_standing (h ∷ hs) [] = refl
-none_standing (h ∷ hs) (s ∷ ss) = refl
-
-pub none_numbered : (ss : List Step) → 0 ≡ length (told 0 ss 0).events
-none_numbered [] = refl
-none_numbered (s ∷ ss) = refl
-
-pub none_book : (k : Book) (V : ℕ) → V ≤ 0 →
-    ◌≡◌ {A = Book} (record { usable = 0; versions = k.versions; made = 0; steps = k.steps; taken = 0; heads = k.heads; branches = 0; events = 0 }) (blank (resized k V))
-none_book k zero none = refl
-none_book k (suc V) none = absurd (omega arith)
-
 -- ---- the values
 pub first_written : {A : Type 0} (V : ℕ) (xs : List A) (x : A) → 0 < V → FirstWritten V xs (set xs 0 x)
 first_written zero xs x some = absurd (omega arith)
 first_written (suc V) xs x some = (x, refl)
-
-pub none_written : {A : Type 0} (V : ℕ) (xs : List A) → V ≤ 0 → FirstWritten V xs xs
-none_written zero xs none = refl
-none_written (suc V) xs none = absurd (omega arith)
 
 module _ {A : Type 0} (m : Meaning) (R : A → List Event → Type 0) where
   held_at : (b : Book) (xs : List A) → Known m (opened b.usable).events × Valued R (opened b.usable).events (opened b.usable).versions xs → b.taken ≡ 0 →
@@ -98,12 +72,9 @@ module _ {A : Type 0} (m : Meaning) (R : A → List Event → Type 0) where
   root_valued (suc V) [] x some l stands = absurd (omega arith)
   root_valued (suc V) (y ∷ ys) x some l stands = (subst (R x) (sym (pick_none nothing)) stands, tt)
 
-  none_valued : (V : ℕ) (xs : List A) → V ≤ 0 → Valued R (opened V).events (opened V).versions xs
-  none_valued zero xs none = tt
-  none_valued (suc V) xs none = absurd (omega arith)
-
-  pub root_held : (b : Book) (xs : List A) (x : A) → b.taken ≡ 0 → 0 < b.usable → 0 < length xs → R x [] → Held m R (record { book = b; values = set xs 0 x })
-  root_held b xs x none some l stands = held_at b (set xs 0 x) (opened_known b.usable, root_valued b.usable xs x some l stands) none
-
-  pub none_held : (b : Book) (xs : List A) → b.taken ≡ 0 → b.usable ≤ 0 → Held m R (record { book = b; values = xs })
-  none_held b xs none room = held_at b xs (opened_known b.usable, none_valued b.usable xs room) none
+  -- the opened memory, with a value that stands for the empty history
+  pub root_held : (V : ℕ) (vs : List Version) (ss : List Step) (hs : List ℕ) (xs : List A) (x : A) → 0 < V → 0 < length xs → R x [] →
+      Held m R (record { book = record { usable = V; versions = vs; made = 1; steps = ss; taken = 0; heads = hs; branches = 1; events = 0 }; values = set xs 0 x })
+  root_held V vs ss hs xs x some l stands =
+      held_at (record { usable = V; versions = vs; made = 1; steps = ss; taken = 0; heads = hs; branches = 1; events = 0 }) (set xs 0 x)
+      (opened_known V, root_valued V xs x some l stands) refl

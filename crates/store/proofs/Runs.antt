@@ -9,15 +9,13 @@ use Rattle.calls.specs.declared.calls.Action.{Action}
 use Rattle.calls.specs.declared.calls.Action.TheVariants.{Fork, Change, Merge}
 use Rattle.calls.specs.declared.calls.Call.{Call}
 use Rattle.calls.specs.declared.calls.Call.TheVariants.{Act, Ask}
-use Rattle.calls.specs.declared.calls.Step.{Step}
 use Rattle.calls.specs.Counts.{record_of}
 use Rattle.calls.specs.World.{World, opened}
 use Rattle.calls.specs.Outcome.{Outcome, outcome}
 use Rattle.calls.specs.Run.{Log, log_of, after, follow, step_of, steps_of}
-use Rattle.store.specs.Book.{Book, Recorded, actions, told, begun}
+use Rattle.store.specs.Book.{Book, Recorded, actions, begun}
 use Rattle.store.specs.Held.{Memory, Held, Opened, FirstWritten}
 use Rattle.store.specs.Attempt.{past, after_fork, after_action, ForkTried, ChangeTried, MergeTried, AskTried, Tried, Attempted, Beyond, Ran}
-use Rattle.store.proofs.Opens.{told_none}
 use Rattle.calls.proofs.Laws.{Defined}
 
 -- ---- memory past what is stored
@@ -139,19 +137,6 @@ pub record Running {A : Type 0} (m : Meaning) (R : A → List Event → Type 0) 
   pub defined : Defined m k.book.usable (opened k.book.usable) xs
 
 module _ {A : Type 0} (m : Meaning) (R : A → List Event → Type 0) where
-  pub running_first : (k : Memory A) → k.book.taken ≡ 0 → Held m R k → Running m R k [] k
-  running_first k none h = record {
-    steps = ap (actions k.book.steps) none ∙ no_actions k.book.steps;
-    followed = ap (told k.book.usable k.book.steps) none ∙ told_none k.book.usable k.book.steps;
-    held = h;
-    grown = grows_same k;
-    defined = tt;
-  }
-    where
-      no_actions : (ss : List Step) → actions ss 0 ≡ []
-      no_actions [] = refl
-      no_actions (s ∷ ss) = refl
-
   running_push : (k k' k'' : Memory A) (xs : Log) (c : Call) (o : Outcome) → Running m R k xs k' → Attempted m R k' c o k'' → Running m R k (xs ++ ((c, o) ∷ [])) k''
   running_push k k' k'' xs c o r t =
       let a = t.kept r.held in

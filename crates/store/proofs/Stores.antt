@@ -1,6 +1,14 @@
 -- What the calls of a store owe, from what their parts give.
-use Rattle.std.proofs.Common.{◌≡◌, ℕ, ◌<◌, true, List, [], ◌∷◌, ◌++◌, length, get_or, ℤ, Ok, Err, Result, sym, refl, ap, ◌∙◌, subst, ap₂, append-nil, arith}
-use Rattle.std.proofs.lemmas.Bool.{cond-true, cond-false}
+use Rattle.std.proofs.Common.{◌≡◌, ℕ, ◌<◌, true, ltb, List, [], ◌∷◌, ◌++◌, length, get_or, set, ℤ, Ok, Err, Result, sym, refl, ap, ◌∙◌, subst, ap₂, append-nil, arith}
+use Rattle.std.specs.Result.{IsErrAnd}
+use Rattle.std.proofs.lemmas.Result.{err_from_is_err_and}
+use Rattle.std.proofs.Math.Logic.{∥∥₁_elim, ∥∥₁_map}
+use base.Stored.{Coded-set}
+use denote.Enum.Declared.{row}
+use Rattle.std.specs.contracts.result.Result.{the_type}
+use Rattle.calls.specs.contracts.calls.Reply as reply
+use Rattle.calls.specs.contracts.fault.StoreFault as fault
+use Rattle.std.proofs.lemmas.Bool.{and_from, lt-ltb, cond-true, cond-false}
 use Rattle.kinds.specs.Events.{Event}
 use Rattle.kinds.specs.Meaning.{Meaning}
 use Rattle.kinds.specs.Duties.{Changes, Merges, Answers}
@@ -13,27 +21,33 @@ use Rattle.calls.specs.declared.calls.Action.TheVariants.{Fork, Change, Merge}
 use Rattle.calls.specs.declared.calls.Call.{Call}
 use Rattle.calls.specs.declared.calls.Call.TheVariants.{Act, Ask}
 use Rattle.calls.specs.declared.calls.Meeting.TheVariants.{Seen as Met, Apart}
+use Rattle.calls.specs.declared.calls.Version as version
 use Rattle.calls.specs.declared.calls.Reply.{Reply}
 use Rattle.calls.specs.declared.calls.Reply.TheVariants.{Branch, Version, Changed, Answer}
 use Rattle.calls.specs.declared.fault.StoreFault.{StoreFault}
 use Rattle.calls.specs.declared.fault.StoreFault.TheVariants.{OfKind}
+use Rattle.kinds.specs.declared.kind.Kind.{Ghosts}
 use Rattle.store.specs.declared.store.Store.{Store}
 use Rattle.calls.specs.World.{opened, seen_by, inside, lowest}
-use Rattle.calls.specs.Outcome.{Outcome, forking, asking, changing, merging}
-use Rattle.calls.specs.Run.{follow, advances, step_of}
-use Rattle.store.specs.Book.{actions}
-use Rattle.store.specs.Held.{Memory}
+use Rattle.calls.specs.Outcome.{Outcome, outcome, forking, asking, changing, merging}
+use Rattle.calls.specs.Run.{follow, advances, step_of, possible}
+use Rattle.store.specs.Book.{actions, world}
+use Rattle.store.specs.Held.{Memory, Held}
 use Rattle.store.specs.Attempt.{past, Reads, next_stamp, after_fork, after_action, ForkTried, ChangeTried, MergeTried, AskTried, Tried, Attempted, replied, Settled}
-use Rattle.store.specs.Views.{memory}
+use Rattle.store.specs.Views.{book, memory}
 use Rattle.calls.proofs.Worlds.{both}
 use Rattle.calls.proofs.Questions.{lowest_same}
-use Rattle.calls.proofs.Inversions.{forking_ok, asking_ok, changing_ok, merging_apart, merging_met}
-use Rattle.store.proofs.Keeps.{tried_kept}
+use Rattle.calls.proofs.Inversions.{forking_ok, asking_ok, changing_ok, Parted, merging_apart, merging_met}
+use Rattle.store.proofs.Keeps.{valued_beyond, tried_kept}
 use Rattle.store.proofs.Books.{advances_append, sound_of, made_of, branches_of, head_at, head_below}
-use Rattle.store.proofs.Writes.{forked_steps, appended_steps}
+use Rattle.store.proofs.Writes.{change_there, change_room, forked_steps, appended_steps}
 
 clash : {r : Reply} {f : StoreFault} {o : Outcome} → o ≡ Ok r → o ≡ Err f → ⊥
 clash p q = let z : ◌≡◌ {A = ℕ} 0 1 = cc in omega arith
+
+-- what a `?` hands on
+err_is : {T : Type 0} (r : Result T StoreFault) (f : StoreFault) → IsErrAnd r (λ z. z ≡ f) → r ≡ Err f
+err_is r f h = let p = err_from_is_err_and r h in p.1 ∙ ap Err p.2
 
 -- a refused call alters nothing
 module _ {A : Type 0} (m : Meaning) (R : A → List Event → Type 0) (k k' : Memory A) (o : Outcome) (f : StoreFault) (e : o ≡ Err f) where
@@ -62,7 +76,13 @@ module _ {A : Type 0} (m : Meaning) (R : A → List Event → Type 0) (k k' : Me
   unaltered_by (Act (Merge d s)) t = merge_unaltered d s t
   unaltered_by (Ask b q) t = ask_unaltered b q t
 
-module _ {A : Type 0} (m : Meaning) (R : A → List Event → Type 0) (s : Store A) where
+module _ {A : Type 0} {κ : Ghosts A} (s : Store A κ) where
+  abbrev m : Meaning
+  m = κ.meaning
+
+  abbrev R : A → List Event → Type 0
+  R = κ.represents
+
   abbrev k : Memory A
   k = memory s
 
@@ -99,18 +119,18 @@ module _ {A : Type 0} (m : Meaning) (R : A → List Event → Type 0) (s : Store
 
   -- ---- questions
   module _ (b : ℕ) (q : Question) where
-    pub ask_refused : (f : StoreFault) (r : Result ℤ StoreFault) → r ≡ Err f → Err f ≡ asking (past k) b → Attempted m R k (Ask b q) (replied Answer r) k
+    pub ask_refused : (f : StoreFault) (r : Result ℤ StoreFault) → IsErrAnd r (λ z. z ≡ f) → Err f ≡ asking (past k) b → Attempted m R k (Ask b q) (replied Answer r) k
     ask_refused f r e h =
-        subst (λ (r : Result ℤ StoreFault). Attempted m R k (Ask b q) (replied Answer r) k) (sym e) (attempted (Ask b q) (Err f) k (AskTried.refused f (sym h) refl refl) refl same_steps)
+        subst (λ (r : Result ℤ StoreFault). Attempted m R k (Ask b q) (replied Answer r) k) (sym (err_is r f e)) (attempted (Ask b q) (Err f) k (AskTried.refused f (sym h) refl refl) refl same_steps)
 
     module _ (head : ℕ) (at : Ok head ≡ asking (past k) b) where
       pub asking_below : head < s.made
       asking_below = let p = asking_ok (past k) b head (sym at) in omega (arith, p.1, made_of s, (sound_of s).headed b p.0)
 
       module _ (v : A) (read : Reads k head v) where
-        pub ask_unkind : (f : KindFault) (r : Result ℤ StoreFault) → r ≡ Err (OfKind f) → Answers m R v q (Err f) → Attempted m R k (Ask b q) (replied Answer r) k
+        pub ask_unkind : (f : KindFault) (r : Result ℤ StoreFault) → IsErrAnd r (λ z. z ≡ OfKind f) → Answers m R v q (Err f) → Attempted m R k (Ask b q) (replied Answer r) k
         ask_unkind f r e duty =
-            subst (λ (r : Result ℤ StoreFault). Attempted m R k (Ask b q) (replied Answer r) k) (sym e)
+            subst (λ (r : Result ℤ StoreFault). Attempted m R k (Ask b q) (replied Answer r) k) (sym (err_is r (OfKind f) e))
             (attempted (Ask b q) (Err (OfKind f)) k (AskTried.said head v (Err f) (sym at) read duty refl refl) refl same_steps)
 
         pub ask_answered : (a : ℤ) → Answers m R v q (Ok a) → Attempted m R k (Ask b q) (Ok (Answer a)) k
@@ -121,10 +141,10 @@ module _ {A : Type 0} (m : Meaning) (R : A → List Event → Type 0) (s : Store
     abbrev change-reply : Result (ℕ × ℤ) StoreFault → Outcome
     change-reply = replied (λ (p : ℕ × ℤ). Changed p.0 p.1)
 
-    pub change_refused : (f : StoreFault) (r : Result (ℕ × ℤ) StoreFault) → r ≡ Err f → Err f ≡ changing s.usable (past k) b →
+    pub change_refused : (f : StoreFault) (r : Result (ℕ × ℤ) StoreFault) → IsErrAnd r (λ z. z ≡ f) → Err f ≡ changing s.usable (past k) b →
         Attempted m R k (Act (Change b c)) (change-reply r) k
     change_refused f r e h =
-        subst (λ (r : Result (ℕ × ℤ) StoreFault). Attempted m R k (Act (Change b c)) (change-reply r) k) (sym e)
+        subst (λ (r : Result (ℕ × ℤ) StoreFault). Attempted m R k (Act (Change b c)) (change-reply r) k) (sym (err_is r f e))
         (attempted (Act (Change b c)) (Err f) k (ChangeTried.refused f (sym h) refl refl) refl same_steps)
 
     module _ (head : ℕ) (at : Ok head ≡ changing s.usable (past k) b) where
@@ -134,17 +154,16 @@ module _ {A : Type 0} (m : Meaning) (R : A → List Event → Type 0) (s : Store
       pub changing_below : head < s.made
       changing_below = omega (arith, inverted.1.1, made_of s, (sound_of s).headed b inverted.0)
 
-      pub changing_there : b < s.branches
-      changing_there = omega (arith, inverted.0, branches_of s)
-
-      pub changing_room : s.made < s.usable
-      changing_room = omega (arith, inverted.1.0, made_of s)
+      pub changing_possible : possible s.usable (past k) (Change b c) ≡ true
+      changing_possible =
+          and_from (ltb b (length (past k).heads)) (ltb (length (past k).versions) s.usable)
+          (lt-ltb b (length (past k).heads) inverted.0) (lt-ltb (length (past k).versions) s.usable inverted.1.0)
 
       module _ (v x : A) (read : Reads k head v) (stamp : Stamp) (stamped : stamp ≡ next_stamp (past k) b) where
-        pub change_unkind : (f : KindFault) (r : Result (ℕ × ℤ) StoreFault) → r ≡ Err (OfKind f) → Changes m R v stamp c (Err f) x →
+        pub change_unkind : (f : KindFault) (r : Result (ℕ × ℤ) StoreFault) → IsErrAnd r (λ z. z ≡ OfKind f) → Changes m R v stamp c (Err f) x →
             Attempted m R k (Act (Change b c)) (change-reply r) k
         change_unkind f r e duty =
-            subst (λ (r : Result (ℕ × ℤ) StoreFault). Attempted m R k (Act (Change b c)) (change-reply r) k) (sym e)
+            subst (λ (r : Result (ℕ × ℤ) StoreFault). Attempted m R k (Act (Change b c)) (change-reply r) k) (sym (err_is r (OfKind f) e))
             (attempted (Act (Change b c)) (Err (OfKind f)) k
             (ChangeTried.unkind head v x f (sym at) read (subst (λ (z : Stamp). Changes m R v z c (Err f) x) stamped duty) refl refl) refl same_steps)
 
@@ -154,14 +173,14 @@ module _ {A : Type 0} (m : Meaning) (R : A → List Event → Type 0) (s : Store
             attempted (Act (Change b c)) (Ok (Changed n a)) k'
             (ChangeTried.made head v x a (sym at) read (subst (λ (z : Stamp). Changes m R v z c (Ok a) x) stamped duty) (ap (λ i. Ok (Changed i a)) q) e)
             (ap (λ (z : Memory A). z.book.usable) e)
-            (ap (λ (z : Memory A). actions z.book.steps z.book.taken) e ∙ appended_steps s (Change b c) b changing_there changing_room)
+            (ap (λ (z : Memory A). actions z.book.steps z.book.taken) e ∙ appended_steps s (Change b c) b (change_there s b c changing_possible) (change_room s b c changing_possible))
 
   -- ---- merges
   module _ (d f : ℕ) where
-    pub merge_refused : (g : StoreFault) (r : Result ℕ StoreFault) → r ≡ Err g → Err g ≡ merging s.usable (past k) d f →
+    pub merge_refused : (g : StoreFault) (r : Result ℕ StoreFault) → IsErrAnd r (λ z. z ≡ g) → Err g ≡ merging s.usable (past k) d f →
         Attempted m R k (Act (Merge d f)) (replied Version r) k
     merge_refused g r e h =
-        subst (λ (r : Result ℕ StoreFault). Attempted m R k (Act (Merge d f)) (replied Version r) k) (sym e)
+        subst (λ (r : Result ℕ StoreFault). Attempted m R k (Act (Merge d f)) (replied Version r) k) (sym (err_is r g e))
         (attempted (Act (Merge d f)) (Err g) k (MergeTried.refused g (sym h) refl refl) refl same_steps)
 
     module _ (head : ℕ) (at : Ok (Met head) ≡ merging s.usable (past k) d f) where
@@ -178,14 +197,23 @@ module _ {A : Type 0} (m : Meaning) (R : A → List Event → Type 0) (s : Store
           (sym (cond-true (inside (past k).events (seen_by (past k) f) (seen_by (past k) d)) [] (Merge d f ∷ []) met.0)))
 
     module _ (base first second : ℕ) (at : Ok (Apart base first second) ≡ merging s.usable (past k) d f) where
-      pub merging_there : d < s.branches
-      merging_there = omega (arith, branches_of s, (merging_apart s.usable (past k) d f base first second (sym at)).1.into)
+      parted : Parted s.usable (past k) d f (Apart base first second)
+      parted = (merging_apart s.usable (past k) d f base first second (sym at)).1
 
-      pub merging_source : f < s.branches
-      merging_source = omega (arith, branches_of s, (merging_apart s.usable (past k) d f base first second (sym at)).1.source)
+      pub merging_possible : possible s.usable (past k) (Merge d f) ≡ true
+      merging_possible =
+          and_from (ltb d (length (past k).heads)) _ (lt-ltb d (length (past k).heads) parted.into)
+          (and_from (ltb f (length (past k).heads)) (ltb (length (past k).versions) s.usable)
+          (lt-ltb f (length (past k).heads) parted.source) (lt-ltb (length (past k).versions) s.usable parted.room))
+
+      merging_there : d < s.branches
+      merging_there = omega (arith, branches_of s, parted.into)
+
+      merging_source : f < s.branches
+      merging_source = omega (arith, branches_of s, parted.source)
 
       named : (base ≡ lowest (past k).events (both (past k) d f) (past k).versions) × ((first ≡ get_or (past k).heads d 0) × (second ≡ get_or (past k).heads f 0))
-      named = let e = (merging_apart s.usable (past k) d f base first second (sym at)).1.named in (cc, (cc, cc))
+      named = let e = parted.named in (cc, (cc, cc))
 
       pub merging_base_below : base < s.made
       merging_base_below =
@@ -193,7 +221,7 @@ module _ {A : Type 0} (m : Meaning) (R : A → List Event → Type 0) (s : Store
             arith,
             named.0,
             made_of s,
-            (lowest_same (past k).events (both (past k) d f) (past k).versions (merging_apart s.usable (past k) d f base first second (sym at)).1.based).0,
+            (lowest_same (past k).events (both (past k) d f) (past k).versions parted.based).0,
           )
 
       pub merging_first_below : first < s.made
@@ -202,14 +230,14 @@ module _ {A : Type 0} (m : Meaning) (R : A → List Event → Type 0) (s : Store
       pub merging_second_below : second < s.made
       merging_second_below = omega (arith, named.1.1, head_at s f merging_source, head_below s f merging_source)
 
-      pub merging_room : s.made < s.usable
-      merging_room = omega (arith, made_of s, (merging_apart s.usable (past k) d f base first second (sym at)).1.room)
+      merging_room : s.made < s.usable
+      merging_room = omega (arith, made_of s, parted.room)
 
       module _ (x y z : A) (rx : Reads k base x) (ry : Reads k first y) (rz : Reads k second z) where
-        pub merge_unkind : (g : KindFault) (r : Result ℕ StoreFault) → r ≡ Err (OfKind g) → Merges m R x y z (Err g) →
+        pub merge_unkind : (g : KindFault) (r : Result ℕ StoreFault) → IsErrAnd r (λ z. z ≡ OfKind g) → Merges m R x y z (Err g) →
             Attempted m R k (Act (Merge d f)) (replied Version r) k
         merge_unkind g r e duty =
-            subst (λ (r : Result ℕ StoreFault). Attempted m R k (Act (Merge d f)) (replied Version r) k) (sym e)
+            subst (λ (r : Result ℕ StoreFault). Attempted m R k (Act (Merge d f)) (replied Version r) k) (sym (err_is r (OfKind g) e))
             (attempted (Act (Merge d f)) (Err (OfKind g)) k (MergeTried.unkind base first second x y z g (sym at) rx ry rz duty refl refl) refl same_steps)
 
         pub merge_made : (n : ℕ) (new : A) (k' : Memory A) → n ≡ s.made → Merges m R x y z (Ok new) → k' ≡ after_action k (Merge d f) d new →
@@ -221,3 +249,28 @@ module _ {A : Type 0} (m : Meaning) (R : A → List Event → Type 0) (s : Store
             ∙ ap (λ (l : List Action). actions k.book.steps k.book.taken ++ l)
             (sym (cond-false (inside (past k).events (seen_by (past k) f) (seen_by (past k) d)) [] (Merge d f ∷ [])
             (merging_apart s.usable (past k) d f base first second (sym at)).0)))
+
+-- ---- what every store holds
+-- The outcomes are a set, so that an equation of two may be taken out of a truncation.
+outcomes : (o o' : Outcome) → IsProp (o ≡ o')
+outcomes = Coded-set (row (the_type reply.the_row fault.the_row)).coded
+
+module _ {A : Type 0} {κ : Ghosts A} (s : Store A κ) {c : Call} {o : Outcome} {k' : Memory A} (t : Attempted κ.meaning κ.represents (memory s) c o k') where
+  -- the outcome is the defined one,
+  pub defined : o ≡ outcome κ.meaning s.usable (past (memory s)) c
+  defined = ∥∥₁_elim s.held (outcomes o (outcome κ.meaning s.usable (past (memory s)) c)) (λ h. (t.kept h).as_defined)
+
+  -- and values again stand for what the versions have seen
+  pub still_held : ∥ Held κ.meaning κ.represents k' ∥₁
+  still_held = ∥∥₁_map s.held (λ h. (t.kept h).held)
+
+-- neither version records nor a value that lies past those of the versions are a matter
+pub values_beyond : {A : Type 0} {κ : Ghosts A} (s : Store A κ) (rs : List version.Version) (x : A) → Held κ.meaning κ.represents (memory s) →
+    Held κ.meaning κ.represents (record {
+      book = record { usable = s.usable; versions = rs; made = s.made; steps = s.steps.now; taken = s.taken; heads = s.heads; branches = s.branches; events = s.events };
+      values = set s.values.now s.made x;
+    })
+values_beyond {κ} s rs x h = record {
+  known = h.known;
+  values = valued_beyond κ.represents (world (book s)).events (world (book s)).versions s.values.now s.made x (omega (arith, made_of s)) h.values;
+}

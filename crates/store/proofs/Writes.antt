@@ -2,13 +2,14 @@
 use Rattle.std.proofs.Common.{◌≡◌, ℕ, zero, suc, ◌+◌, ◌<◌, ◌≤◌, max, true, ltb, ◌≢◌, List, [], ◌∷◌, ◌++◌, length, get_or, take, set, sym, refl, ap, ◌∙◌, subst, ap₂, ⊎_elim, arith, length-set}
 use lib.ListN.{length-map}
 use Rattle.std.proofs.lemmas.List.{take_more_set, map_push, length_push, get_or-set_same, get_or-set_other, get_or_push, ext_get_or}
-use Rattle.std.proofs.lemmas.Bool.{and_from, lt-ltb, cases_eq, ne_eqb}
+use Rattle.std.proofs.lemmas.Bool.{and_from, and_parts, lt-ltb, ltb-true, cases_eq, ne_eqb}
 use Rattle.std.proofs.lemmas.Bool.Decides.{nat_tests}
 use Rattle.kinds.specs.Events.{Seen, Event, joined, nothing}
 use Rattle.kinds.specs.declared.calls.Change as kind
 use Rattle.calls.specs.declared.calls.Action.{Action}
 use Rattle.calls.specs.declared.calls.Action.TheVariants.{Fork, Change, Merge}
 use Rattle.calls.specs.declared.calls.Version.{Version}
+use Rattle.kinds.specs.declared.kind.Kind.{Ghosts}
 use Rattle.store.specs.declared.store.Store.{Store}
 use Rattle.calls.specs.World.{World, advance, opened, seen_by, with_event, next_event}
 use Rattle.calls.specs.Counts.{tally, record_of, records_of}
@@ -20,7 +21,7 @@ use Rattle.store.specs.Views.{book, memory, record_at}
 use Rattle.calls.proofs.Prefixes.{one_more}
 use Rattle.calls.proofs.Worlds.{Sound, sound_advance}
 use Rattle.calls.proofs.Questions.{count_is, tally_joined, tally_change, tally_small, records_kept}
-use Rattle.store.proofs.Books.{actions_more, told_more, still_possible, sound_of, made_of, branches_of, head_below, head_count}
+use Rattle.store.proofs.Books.{actions_more, told_more, still_possible, sound_of, made_of, branches_of, head_below, record_long, head_count}
 
 take_set_below : {A : Type 0} (n : ℕ) (l : List A) (i : ℕ) (a : A) → take n (set l i a) ≡ set (take n l) i a
 take_set_below zero [] i a = refl
@@ -47,91 +48,98 @@ module _ (w : World) (b : ℕ) (l : b < length w.heads) (new : Seen) (es : List 
       ∙ get_or_push w.versions new nothing (length w.versions) refl
 
 -- counts that are the tallies of a set are its record
-record_by : (w : World) (h : Sound w) (s : Seen) (counts : List ℕ) → length counts ≡ 16 → ((x : ℕ) → get_or counts x 0 ≡ tally w.events s x) →
+record_by : (w : World) (h : Sound w) (s : Seen) (counts : List ℕ) → length counts ≡ 16 → ((x : ℕ) → x < 16 → get_or counts x 0 ≡ tally w.events s x) →
     ◌≡◌ {A = Version} (record { counts = counts }) (record_of w.events s)
 record_by w h s counts sixteen each =
-    ap (λ (l : List ℕ). record { counts = l }) (ext_get_or 0 counts (record_of w.events s).counts sixteen (λ x l. each x ∙ sym (count_is w h s x)))
+    ap (λ (l : List ℕ). record { counts = l })
+    (ext_get_or 0 counts (record_of w.events s).counts sixteen (λ x l. each x (omega (arith, sixteen)) ∙ sym (count_is w h s x)))
 
-module _ {A : Type 0} (s : Store A) (room : s.made < s.usable) where
+module _ {A : Type 0} {κ : Ghosts A} (s : Store A κ) where
   abbrev w : World
   w = world (book s)
 
-  moving_merge : (d f : ℕ) → d < s.branches → f < s.branches → possible s.usable w (Merge d f) ≡ true
-  moving_merge d f dl fl =
-      and_from (ltb d (length w.heads)) _ (lt-ltb d (length w.heads) (omega (arith, branches_of s)))
-      (and_from (ltb f (length w.heads)) (ltb (length w.versions) s.usable) (lt-ltb f (length w.heads) (omega (arith, branches_of s)))
-      (lt-ltb (length w.versions) s.usable (omega (arith, made_of s))))
+  -- ---- a merge
+  module _ (d f : ℕ) (h : possible s.usable w (Merge d f) ≡ true) where
+    parts : (d < length w.heads) × ((f < length w.heads) × (length w.versions < s.usable))
+    parts =
+        let p = and_parts (ltb d (length w.heads)) _ h in
+        let q = and_parts (ltb f (length w.heads)) (ltb (length w.versions) s.usable) p.1 in
+        (ltb-true d (length w.heads) p.0, (ltb-true f (length w.heads) q.0, ltb-true (length w.versions) s.usable q.1))
 
-  moving_change : (b : ℕ) (c : kind.Change) → b < s.branches → possible s.usable w (Change b c) ≡ true
-  moving_change b c bl =
-      and_from (ltb b (length w.heads)) (ltb (length w.versions) s.usable) (lt-ltb b (length w.heads) (omega (arith, branches_of s)))
-      (lt-ltb (length w.versions) s.usable (omega (arith, made_of s)))
+    pub merge_into : d < s.branches
+    merge_into = omega (arith, parts.0, branches_of s)
 
-  pub merge_appends : (d f : ℕ) (ours theirs counts : List ℕ) → d < s.branches → f < s.branches →
-      ours ≡ (record_at s (get_or s.heads d 0)).counts → theirs ≡ (record_at s (get_or s.heads f 0)).counts →
-      length counts ≡ 16 → ((x : ℕ) → get_or counts x 0 ≡ max (get_or ours x 0) (get_or theirs x 0)) →
-      Appends s.usable w (Merge d f) d (record { counts = counts }) s.events
-  merge_appends d f ours theirs counts dl fl o t sixteen high = record {
-    possible = moving_merge d f dl fl;
-    versions = map_push (record_of w.events) w.versions (joined (seen_by w d) (seen_by w f)) ∙ ap (λ (r : Version). records_of w ++ (r ∷ [])) (sym new);
-    version = new ∙ ap (record_of w.events) (sym (seen_moved w d (omega (arith, branches_of s)) (joined (seen_by w d) (seen_by w f)) w.events));
-    heads = refl;
-    events = s.numbered;
-  }
-    where
-      new : ◌≡◌ {A = Version} (record { counts = counts }) (record_of w.events (joined (seen_by w d) (seen_by w f)))
-      new = record_by w (sound_of s) (joined (seen_by w d) (seen_by w f)) counts sixteen
-          (λ x. omega (
-            arith,
-            high x,
-            tally_joined w (sound_of s) d f x,
-            ap (λ (l : List ℕ). get_or l x 0) o,
-            ap (λ (l : List ℕ). get_or l x 0) t,
-            head_count s d x dl,
-            head_count s f x fl,
-          ))
+    pub merge_source : f < s.branches
+    merge_source = omega (arith, parts.1.0, branches_of s)
 
-  pub change_appends : (b : ℕ) (c : kind.Change) (was counts : List ℕ) → b < s.branches → was ≡ (record_at s (get_or s.heads b 0)).counts →
-      length counts ≡ 16 → (get_or was b 0 < 65535 → counts ≡ set was b (get_or was b 0 + 1)) →
-      Appends s.usable w (Change b c) b (record { counts = counts }) (s.events + 1)
-  change_appends b c was counts bl o sixteen more = record {
-    possible = moving_change b c bl;
-    versions = map_push (record_of es) w.versions grown
-        ∙ ap₂ (λ (rs : List Version) (r : Version). rs ++ (r ∷ [])) (sym (records_kept w (sound_of s) b c)) (sym new);
-    version = new ∙ ap (record_of es) (sym (seen_moved w b (omega (arith, branches_of s)) grown es));
-    heads = refl;
-    events = ap (λ n. n + 1) s.numbered ∙ sym (length_push w.events (next_event w b c));
-  }
-    where
-      es : List Event
-      es = w.events ++ (next_event w b c ∷ [])
+    pub merge_room : s.made < s.usable
+    merge_room = omega (arith, parts.1.1, made_of s)
 
-      grown : Seen
-      grown = with_event (seen_by w b) (length w.events + 1)
+    pub merge_appends : (counts : List ℕ) → length counts ≡ 16 →
+        ((x : ℕ) → x < 16 → get_or counts x 0 ≡ max (get_or (record_at s (get_or s.heads d 0)).counts x 0) (get_or (record_at s (get_or s.heads f 0)).counts x 0)) →
+        Appends s.usable w (Merge d f) d (record { counts = counts }) s.events
+    merge_appends counts sixteen high = record {
+      possible = h;
+      versions = map_push (record_of w.events) w.versions (joined (seen_by w d) (seen_by w f)) ∙ ap (λ (r : Version). records_of w ++ (r ∷ [])) (sym new);
+      version = new ∙ ap (record_of w.events) (sym (seen_moved w d parts.0 (joined (seen_by w d) (seen_by w f)) w.events));
+      heads = refl;
+      events = s.numbered;
+    }
+      where
+        new : ◌≡◌ {A = Version} (record { counts = counts }) (record_of w.events (joined (seen_by w d) (seen_by w f)))
+        new = record_by w (sound_of s) (joined (seen_by w d) (seen_by w f)) counts sixteen
+            (λ x l. omega (arith, high x l, tally_joined w (sound_of s) d f x, head_count s d x merge_into, head_count s f x merge_source))
 
-      small : get_or was b 0 < 65535
-      small = omega (arith, ap (λ (l : List ℕ). get_or l b 0) o, head_count s b b bl, tally_small w (sound_of s) (seen_by w b) b, s.numbered, s.fewer, s.small)
+  -- ---- a change
+  module _ (b : ℕ) (c : kind.Change) (h : possible s.usable w (Change b c) ≡ true) where
+    pub change_there : b < s.branches
+    change_there = omega (arith, ltb-true b (length w.heads) (and_parts (ltb b (length w.heads)) (ltb (length w.versions) s.usable) h).0, branches_of s)
 
-      long : length was ≡ 16
-      long = sym (length-set was b (get_or was b 0 + 1)) ∙ ap length (sym (more small)) ∙ sixteen
+    pub change_room : s.made < s.usable
+    change_room = omega (arith, ltb-true (length w.versions) s.usable (and_parts (ltb b (length w.heads)) (ltb (length w.versions) s.usable) h).1, made_of s)
 
-      each : (x : ℕ) → get_or counts x 0 ≡ one_more (tally w.events (seen_by w b)) b x
-      each x =
-          ap (λ (l : List ℕ). get_or l x 0) (more small)
-          ∙ set_more was b x (tally w.events (seen_by w b)) (omega (arith, long, s.few)) (λ y. ap (λ (l : List ℕ). get_or l y 0) o ∙ head_count s b y bl)
+    abbrev was : List ℕ
+    was = (record_at s (get_or s.heads b 0)).counts
 
-      new : ◌≡◌ {A = Version} (record { counts = counts }) (record_of es grown)
-      new = record_by (advance w (Change b c)) (sound_advance s.usable w (Change b c) s.small (sound_of s) (moving_change b c bl)) grown counts sixteen
-          (λ x. each x ∙ sym (tally_change w (sound_of s) b c x))
+    -- there are so few events that the count fits
+    pub change_small : get_or was b 0 < 4096
+    change_small = omega (arith, head_count s b b change_there, tally_small w (sound_of s) (seen_by w b) b, s.numbered, s.fewer, change_room, s.small)
+
+    pub change_appends : Appends s.usable w (Change b c) b (record { counts = set was b (get_or was b 0 + 1) }) (s.events + 1)
+    change_appends = record {
+      possible = h;
+      versions = map_push (record_of es) w.versions grown
+          ∙ ap₂ (λ (rs : List Version) (r : Version). rs ++ (r ∷ [])) (sym (records_kept w (sound_of s) b c)) (sym new);
+      version = new ∙ ap (record_of es) (sym (seen_moved w b (omega (arith, branches_of s, change_there)) grown es));
+      heads = refl;
+      events = ap (λ n. n + 1) s.numbered ∙ sym (length_push w.events (next_event w b c));
+    }
+      where
+        es : List Event
+        es = w.events ++ (next_event w b c ∷ [])
+
+        grown : Seen
+        grown = with_event (seen_by w b) (length w.events + 1)
+
+        long : length was ≡ 16
+        long = record_long s (get_or s.heads b 0) (head_below s b change_there)
+
+        each : (x : ℕ) → get_or (set was b (get_or was b 0 + 1)) x 0 ≡ one_more (tally w.events (seen_by w b)) b x
+        each x = set_more was b x (tally w.events (seen_by w b)) (omega (arith, long, s.few, change_there)) (λ y. head_count s b y change_there)
+
+        new : ◌≡◌ {A = Version} (record { counts = set was b (get_or was b 0 + 1) }) (record_of es grown)
+        new = record_by (advance w (Change b c)) (sound_advance s.usable w (Change b c) s.small (sound_of s) h) grown (set was b (get_or was b 0 + 1))
+            (length-set was b (get_or was b 0 + 1) ∙ long)
+            (λ x l. each x ∙ sym (tally_change w (sound_of s) b c x))
 
 -- ---- a version more
-pub step_space : {A : Type 0} (s : Store A) (b : ℕ) → b < s.branches → s.made < s.usable → s.taken < length s.steps.now
+pub step_space : {A : Type 0} {κ : Ghosts A} (s : Store A κ) (b : ℕ) → b < s.branches → s.made < s.usable → s.taken < length s.steps.now
 step_space s b bl room = let e = s.stepped (omega arith) in let k = s.counted (omega (arith, head_below s b bl)) in omega (arith, s.few)
 
-pub few_steps : {A : Type 0} (s : Store A) (b : ℕ) → b < s.branches → s.made < s.usable → s.taken < 4111
+pub few_steps : {A : Type 0} {κ : Ghosts A} (s : Store A κ) (b : ℕ) → b < s.branches → s.made < s.usable → s.taken < 4111
 few_steps s b bl room = let k = s.counted (omega (arith, head_below s b bl)) in omega (arith, s.few, s.small)
 
-module _ {A : Type 0} (s : Store A) (a : Action) (b : ℕ) (r : Version) (n : ℕ) (bl : b < s.branches) (room : s.made < s.usable)
+module _ {A : Type 0} {κ : Ghosts A} (s : Store A κ) (a : Action) (b : ℕ) (r : Version) (n : ℕ) (bl : b < s.branches) (room : s.made < s.usable)
     (h : Appends s.usable (world (book s)) a b r n) where
   moved : told s.usable (set s.steps.now s.taken (record { action = a })) (s.taken + 1) ≡ advance (world (book s)) a
   moved = told_more s.usable s.steps.now s.taken (record { action = a }) (step_space s b bl room)
@@ -166,7 +174,7 @@ module _ {A : Type 0} (s : Store A) (a : Action) (b : ℕ) (r : Version) (n : �
   pub append_counted : s.taken + 1 + 2 ≤ s.made + 1 + s.branches
   append_counted = let k = s.counted (omega (arith, head_below s b bl)) in omega arith
 
-pub append_memory : {A : Type 0} (s : Store A) (a : Action) (b : ℕ) (r : Version) (n : ℕ) (x : A) → Appends s.usable (world (book s)) a b r n →
+pub append_memory : {A : Type 0} {κ : Ghosts A} (s : Store A κ) (a : Action) (b : ℕ) (r : Version) (n : ℕ) (x : A) → Appends s.usable (world (book s)) a b r n →
     ◌≡◌ {A = Memory A} (record {
       book = record {
         usable = s.usable;
@@ -196,12 +204,12 @@ append_memory {A} s a b r n x h =
     }) h.version h.events
 
 -- ---- the steps afterwards
-pub appended_steps : {A : Type 0} (s : Store A) (a : Action) (b : ℕ) → b < s.branches → s.made < s.usable →
+pub appended_steps : {A : Type 0} {κ : Ghosts A} (s : Store A κ) (a : Action) (b : ℕ) → b < s.branches → s.made < s.usable →
     actions (set s.steps.now s.taken (record { action = a })) (s.taken + 1) ≡ actions s.steps.now s.taken ++ (a ∷ [])
 appended_steps s a b bl room = actions_more s.usable s.steps.now s.taken (record { action = a }) (step_space s b bl room)
 
 -- ---- a branch more
-module _ {A : Type 0} (s : Store A) (v : ℕ) (vl : v < s.made) (bl : s.branches < 16) where
+module _ {A : Type 0} {κ : Ghosts A} (s : Store A κ) (v : ℕ) (vl : v < s.made) (bl : s.branches < 16) where
   branch_space : s.taken < length s.steps.now
   branch_space = let e = s.stepped (omega (arith, s.within)) in let k = s.counted (omega arith) in omega (arith, s.within)
 

@@ -17,8 +17,8 @@ Valued R es [] vs = Unit {0}
 Valued R es (s ∷ ss) [] = ⊥
 Valued R es (s ∷ ss) (v ∷ vs) = R v (pick s es) × Valued R es ss vs
 
--- The kind knows every event, and each stored version's value stands for what the version has seen. Opening gives this, every call keeps
--- it, and only what depends on values assumes it.
+-- The kind knows every event, and each stored version's value stands for what the version has seen. Opening gives this and every call
+-- keeps it, so that it is a ghost field of a store: there is no store of which it does not hold.
 pub record Held {A : Type 0} (m : Meaning) (R : A → List Event → Type 0) (k : Memory A) : Type 0 where
   pub known : Known m (world k.book).events
   pub values : Valued R (world k.book).events (world k.book).versions k.values

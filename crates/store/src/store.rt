@@ -4,8 +4,10 @@ ghost use Rattle.store.specs.Book.{actions, told};
 ghost use Rattle.calls.specs.Run.{all_possible};
 ghost use Rattle.calls.specs.Counts.{records_of};
 ghost use Rattle.calls.specs.World.{opened};
+ghost use Rattle.store.specs.Held.{Held};
 
 use calls::{Step, Version};
+use kinds::Kind;
 
 mod ask;
 mod change;
@@ -17,7 +19,7 @@ mod run;
 mod write;
 
 #[derive(Drop)]
-pub struct Store<'a, K> {
+pub struct Store<'a, K: Kind> {
     versions: &'a mut [Version],
     values: &'a mut [K],
     steps: &'a mut [Step],
@@ -43,4 +45,7 @@ pub struct Store<'a, K> {
     ghost recorded: { take made versions.now ≡ records_of (told usable steps.now taken) },
     ghost standing: { take branches heads ≡ (told usable steps.now taken).heads },
     ghost numbered: { events ≡ length (told usable steps.now taken).events },
+    // The value of each stored version stands for what the version has seen. It is said that there is a proof, and not which, since
+    // `represents` may be any relation.
+    ghost held: { ∥ Held K.meaning K.represents (record { book = record { usable = usable; versions = versions.now; made = made; steps = steps.now; taken = taken; heads = heads; branches = branches; events = events }; values = values.now }) ∥₁ },
 }

@@ -2,16 +2,15 @@
 // apart, and one that is refused until there is a version to merge from.
 #![tactic(auto)]
 
-use calls::{Call, Reply, Step, StoreFault, Version};
+use calls::{Call, Step, StoreFault, Version};
 use kinds::{Counter, Kind};
-use std::alloc::{AllocError, Global};
-use std::io;
 use store::Store;
 
 mod story;
 mod words;
 
 use story::Line;
+use words::Entry;
 
 const VERSIONS: usize = 16;
 
@@ -19,29 +18,6 @@ const BRANCHES: usize = 16;
 
 // One for each version and each branch that are made: all but the first of each.
 const STEPS: usize = VERSIONS - 1 + BRANCHES - 1;
-
-fn calls_of(heap: Global, story: &[Line]) -> Result<Vec<Call>, AllocError> {
-    let mut calls = Vec::new(heap);
-    for line in story {
-        calls.push(line.call)?;
-    }
-    Ok(calls)
-}
-
-fn print_story(
-    rt: &HostRuntime,
-    story: &[Line],
-    outcomes: &[Result<Reply, StoreFault>],
-) -> io::Result<()> {
-    for (line, outcome) in story.iter().zip(outcomes.iter()) {
-        if let Some(why) = line.why {
-            println!(rt; "\n{why}")?;
-        }
-        words::print_call(rt, line.call)?;
-        words::print_outcome(rt, *outcome)?;
-    }
-    Ok(())
-}
 
 // Runs all calls of a story in a row, and then prints it line by line.
 fn follow(
@@ -51,11 +27,13 @@ fn follow(
     story: &[Line],
 ) -> anyhow::Result<()> {
     let heap = rt.alloc();
-    let calls = calls_of(heap, story)?;
+    let calls: Vec<Call> = story.iter().map(|line| line.call).collect(heap)?;
     let mut outcomes = vec![in heap; Err(StoreFault::NoVersion); calls.len()]?;
     let tried = store.run(calls.as_slice(), outcomes.as_mut_slice());
     println!(rt; "\n{title}: {tried} calls, run in a row")?;
-    print_story(rt, story, outcomes.as_slice())?;
+    for (&line, &outcome) in story.iter().zip(outcomes.iter()) {
+        println!(rt; "{}", Entry { line, outcome })?;
+    }
     Ok(())
 }
 

@@ -44,7 +44,7 @@ fn plain(call: Call) -> Line {
 fn headed(why: &'static str, line: Line) -> Line {
     Line {
         why: Some(why),
-        call: line.call,
+        ..line
     }
 }
 

@@ -3,7 +3,9 @@ ghost use Rattle.std.specs.Prelude.{◌≡◌};
 ghost use Rattle.calls.specs.declared.calls.Call.TheVariants.{Ask};
 ghost use Rattle.calls.specs.declared.calls.Reply.TheVariants.{Answer};
 ghost use Rattle.store.specs.Attempt.{Attempted, replied};
-ghost use Rattle.store.specs.Views.{memory};
+ghost use Rattle.store.specs.Book.{world};
+ghost use Rattle.store.specs.Views.{book, memory};
+ghost use Rattle.calls.specs.Outcome.{outcome};
 
 use super::Store;
 use calls::StoreFault;
@@ -12,11 +14,11 @@ use kinds::{Kind, Question};
 impl<'a, K: Kind> Store<'a, K> {
     // Answers a question on what a branch has seen.
     pub fn ask(&self, branch: u8, question: Question) -> Result<i64, StoreFault>
-        ensures { Attempted K.meaning K.represents (memory self.now) (Ask branch question) (replied Answer result) (memory self.now) }
+        ensures attempted { Attempted K.meaning K.represents (memory self.now) (Ask branch question) (replied Answer result) (memory self.now) }
+        ensures defined { replied Answer result ≡ outcome K.meaning self.now.usable (world (book self.now)) (Ask branch question) }
     {
         let head = self.head(branch)?;
-        let value = self.value(head);
-        Ok(value.answer(question)?)
+        Ok(self.value(head).answer(question)?)
     }
 
     // How many versions can be stored.

@@ -1,6 +1,6 @@
 // The opened store.
-ghost use Rattle.std.specs.Prelude.{ℕ, ◌+◌, ◌<◌, ◌≤◌, length};
-ghost use Rattle.store.specs.Held.{Greatest, Held, Opened, lent, resized_memory};
+ghost use Rattle.std.specs.Prelude.{◌<◌, length};
+ghost use Rattle.store.specs.Held.{Greatest, Held, Opened, Room, lent, resized_memory};
 ghost use Rattle.store.specs.Views.{memory};
 
 use super::Store;
@@ -48,7 +48,7 @@ impl<'a, K: Kind> Store<'a, K> {
 
     // The opened state, with this usable size.
     fn reset(&mut self, usable: usize)
-        requires { (usable ≤ 4096) × ((usable ≤ length self.old.versions.now) × ((usable ≤ length self.old.values.now) × ((0 < usable → usable + 14 ≤ length self.old.steps.now)))) }
+        requires { 0 < usable → Room (length self.old.versions.now) (length self.old.values.now) (length self.old.steps.now) usable }
         ensures written { Opened (resized_memory (memory self.old) usable) (memory self.new) }
         ensures held { Held K.meaning K.represents (memory self.new) }
     {

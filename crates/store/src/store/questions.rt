@@ -1,16 +1,17 @@
 // The questions that a store asks before a kind is asked.
-ghost use Rattle.std.specs.Prelude.{◌≡◌, ℕ, ◌+◌, ◌<◌, length, MatchOption, slice_index, slice_index_or};
+ghost use Rattle.std.specs.Prelude.{◌≡◌, ◌<◌, ◌≤◌, MatchOption, nat_eq, position, slice_index, take};
+ghost use Rattle.std.specs.Cmp.Lexicographic.{pointwise};
 ghost use Rattle.store.specs.Attempt.{Reads, next_stamp};
 ghost use Rattle.store.specs.Book.{world};
 ghost use Rattle.calls.specs.Outcome.{asking, changing, merging};
-ghost use Rattle.store.specs.Views.{book, memory, record_at};
+ghost use Rattle.store.specs.Views.{book, memory};
 
 use super::Store;
 use crate::counts;
 use calls::{Meeting, StoreFault, Version};
-use kinds::Stamp;
+use kinds::{Kind, Stamp};
 
-impl<'a, K: Copy> Store<'a, K> {
+impl<'a, K: Kind> Store<'a, K> {
     // The head of a branch.
     pub(super) fn head(&self, branch: u8) -> Result<usize, StoreFault>
         ensures { result ≡ asking (world (book self.now)) branch }
@@ -18,10 +19,16 @@ impl<'a, K: Copy> Store<'a, K> {
         if self.made == 0 {
             return Err(StoreFault::NoVersion);
         }
-        if branch as usize >= self.branches {
-            return Err(StoreFault::NoBranch(branch));
-        }
-        Ok(self.heads[branch as usize] as usize)
+        self.head_if_there(branch)
+            .ok_or(StoreFault::NoBranch(branch))
+    }
+
+    fn head_if_there(&self, branch: u8) -> Option<usize>
+        ensures { MatchOption result (self.now.branches ≤ branch) (λ head. (branch < self.now.branches) × (head ≡ slice_index self.now.heads branch)) }
+    {
+        self.heads[..self.branches]
+            .get(branch as usize)
+            .map(|head| *head as usize)
     }
 
     // The head of a branch to which a version can be added.
@@ -40,45 +47,31 @@ impl<'a, K: Copy> Store<'a, K> {
         ensures { result ≡ merging self.now.usable (world (book self.now)) into from }
     {
         let first = self.head(into)?;
-        if from as usize >= self.branches {
-            return Err(StoreFault::NoSource(from));
-        }
-        let second = self.heads[from as usize] as usize;
-        let ours = self.counts(first);
-        let theirs = self.counts(second);
-        if counts::within(theirs, ours) {
+        let second = self.head_if_there(from).ok_or(StoreFault::NoSource(from))?;
+        let ours = self.versions[first];
+        let theirs = self.versions[second];
+        if counts::within(&theirs, &ours) {
             return Ok(Meeting::Seen(first));
         }
-        let Some(base) = self.lowest(counts::lower(ours, theirs)) else {
-            return Err(StoreFault::NoBase(into));
-        };
+        let shared = counts::branchwise(&ours, &theirs, u16::min);
+        let base = self.lowest(&shared).ok_or(StoreFault::NoBase(into))?;
         if self.made >= self.usable {
             return Err(StoreFault::VersionsFull(into));
         }
-        Ok(Meeting::Apart(base, first, second))
+        Ok(Meeting::Apart {
+            base,
+            first,
+            second,
+        })
     }
 
-    // The lowest version with these counts.
-    fn lowest(&self, counts: [u16; 16]) -> Option<usize>
-        ensures { MatchOption result
-            ((i : ℕ) → i < self.now.made → ((b : ℕ) → slice_index (record_at self.now i).counts b ≡ slice_index counts b) → ⊥)
-            (λ i. (i < self.now.made) × (((b : ℕ) → slice_index (record_at self.now i).counts b ≡ slice_index counts b)
-            × ((j : ℕ) → j < i → ((b : ℕ) → slice_index (record_at self.now j).counts b ≡ slice_index counts b) → ⊥))) }
+    // The lowest version that has seen just this.
+    fn lowest(&self, seen: &Version) -> Option<usize>
+        ensures { result ≡ position (λ v. pointwise nat_eq v.counts seen.now.counts) (take self.now.made self.now.versions.now) }
     {
-        for i in 0..self.made {
-            if counts::equal(self.counts(i), counts) {
-                return Some(i);
-            }
-        }
-        None
-    }
-
-    // The counts of a stored version.
-    pub(super) fn counts(&self, version: usize) -> [u16; 16]
-        requires { version < self.now.made }
-        ensures { result ≡ (record_at self.now version).counts }
-    {
-        element(self.versions, version).counts
+        self.versions[..self.made]
+            .iter()
+            .position(|version| version == seen)
     }
 
     // The stamp of the next change on a branch.
@@ -92,18 +85,11 @@ impl<'a, K: Copy> Store<'a, K> {
     }
 
     // The value of a stored version.
-    pub(super) fn value(&self, version: usize) -> K
+    pub(super) fn value(&self, version: usize) -> &K
         requires { version < self.now.made }
-        ensures { Reads (memory self.now) version result }
+        ensures { Reads (memory self.now) version result.now }
     {
-        element(self.values, version)
+        let values = &*self.values;
+        &values[version]
     }
-}
-
-// An element, by a slice of its own: of a slice behind `&self` the checker doesn't know that its size in bytes fits.
-fn element<T: Copy>(items: &[T], i: usize) -> T
-    requires { i < length items.now }
-    ensures { result ≡ slice_index_or items.now i result }
-{
-    items[i]
 }

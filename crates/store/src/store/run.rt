@@ -3,7 +3,9 @@ ghost use Rattle.std.specs.Prelude.{◌≡◌, ℕ, min, length, take, drop};
 ghost use Rattle.calls.specs.declared.calls.Call.TheVariants.{Act};
 ghost use Rattle.store.specs.Attempt.{Attempted, Ran};
 ghost use Rattle.calls.specs.Run.{Lawful, log_of};
-ghost use Rattle.store.specs.Views.{memory};
+ghost use Rattle.store.specs.Book.{world};
+ghost use Rattle.store.specs.Views.{book, memory};
+ghost use Rattle.calls.specs.Outcome.{outcome};
 
 use super::Store;
 use calls::{Action, Call, Reply, StoreFault};
@@ -11,7 +13,8 @@ use kinds::Kind;
 
 impl<'a, K: Kind> Store<'a, K> {
     pub fn act(&mut self, action: Action) -> Result<Reply, StoreFault>
-        ensures { Attempted K.meaning K.represents (memory self.old) (Act action) result (memory self.new) }
+        ensures attempted { Attempted K.meaning K.represents (memory self.old) (Act action) result (memory self.new) }
+        ensures defined { result ≡ outcome K.meaning self.old.usable (world (book self.old)) (Act action) }
     {
         match action {
             Action::Fork(version) => Ok(Reply::Branch(self.fork(version)?)),
@@ -24,7 +27,8 @@ impl<'a, K: Kind> Store<'a, K> {
     }
 
     pub fn attempt(&mut self, call: Call) -> Result<Reply, StoreFault>
-        ensures { Attempted K.meaning K.represents (memory self.old) call result (memory self.new) }
+        ensures attempted { Attempted K.meaning K.represents (memory self.old) call result (memory self.new) }
+        ensures defined { result ≡ outcome K.meaning self.old.usable (world (book self.old)) call }
     {
         match call {
             Call::Act(action) => self.act(action),
@@ -42,9 +46,9 @@ impl<'a, K: Kind> Store<'a, K> {
     {
         self.reopen();
         let number = calls.len().min(outcomes.len());
-        for i in 0..number {
-            let call = calls[i];
-            outcomes[i] = self.attempt(call);
+        // By index: of what is written through `iter_mut` a proof knows no element.
+        for (i, call) in calls[..number].iter().enumerate() {
+            outcomes[i] = self.attempt(*call);
         }
         number
     }

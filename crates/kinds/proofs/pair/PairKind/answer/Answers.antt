@@ -1,16 +1,18 @@
-use Rattle.std.proofs.Common.{◌^◌, ◌<◌, sym, rules}
+use Rattle.std.proofs.Common.{◌≡◌, ◌^◌, ◌<◌, sym, rules}
 use Rattle.kinds.specs.declared.pair.Side.TheVariants.{Left, Right}
-use Rattle.kinds.proofs.Routes.{pair_answers}
+use Rattle.kinds.proofs.Routes.{mapped, outer_result, pair_answers, sent_out}
 use Rattle.kinds.proofs.pair.PairKind.answer.Goals as goal
+use Rattle.kinds.proofs.pair.PairKind.answer.Goals.{in-Left, in-Right}
 
-pub returns-in-Left : goal.returns-in-Left
-returns-in-Left g c =
+pub returns : goal.returns
+returns g c =
     let b : c.args.question.place < 2 ^ 32 = search rules in
-    pair_answers g.L.Kind.meaning g.R.Kind.meaning Left g.L.Kind.represents _ c.args.self.now.left c.args.self.now (λ h p. p.0)
-    c.args.question _ c.answer.result c.outward.result (sym c.in-Left.ensures) b c.inner_question-inner.ensures c.outward.ensures c.answer.ensures
-
-pub returns-in-Right : goal.returns-in-Right
-returns-in-Right g c =
-    let b : c.args.question.place < 2 ^ 32 = search rules in
-    pair_answers g.L.Kind.meaning g.R.Kind.meaning Right g.R.Kind.represents _ c.args.self.now.right c.args.self.now (λ h p. p.1)
-    c.args.question _ c.answer-in-Right.result c.outward-in-Right.result (sym c.in-Right.ensures) b c.inner_question-inner.ensures c.outward-in-Right.ensures c.answer-in-Right.ensures
+    let out : c.map_err.result ≡ outer_result c.of-side.result c.match-side.map_err = mapped c.of-side.result c.match-side.map_err c.map_err.result _ c.map_err.ensures.cases (λ e f p. search rules) in
+    elim c.match-side.branch [
+      | in-Left w ↦ pair_answers g.L.Kind.meaning g.R.Kind.meaning Left g.L.Kind.represents _ c.args.self.now.left c.args.self.now (λ h p. p.0)
+          c.args.question _ w.answer.result c.map_err.result (sym w.in-Left.ensures) b c.halved-inner.ensures
+          (sent_out Left _ _ _ _ w.in-Left.is w.map_err-is out) w.answer.ensures
+      | in-Right w ↦ pair_answers g.L.Kind.meaning g.R.Kind.meaning Right g.R.Kind.represents _ c.args.self.now.right c.args.self.now (λ h p. p.1)
+          c.args.question _ w.answer-in-Right.result c.map_err.result (sym w.in-Right.ensures) b c.halved-inner.ensures
+          (sent_out Right _ _ _ _ w.in-Right.is w.map_err-is out) w.answer-in-Right.ensures
+    ]

@@ -1,14 +1,16 @@
 -- That a merge of queues is what it owes.
-use Rattle.std.proofs.Common.{refl}
-use Rattle.queues.specs.Calls.{done_merge, full_merge}
+use Rattle.std.proofs.Common.{refl, rules, ◌≡◌, Err}
+use Rattle.kinds.specs.declared.fault.KindFault.TheVariants.{DoesNotFit}
+use Rattle.queues.proofs.Calls.{done_merge, full_merge, held}
 use Rattle.queues.proofs.queue.QueueKind.merge.Goals as goal
 
-pub returns-in-Some : goal.returns-in-Some
-returns-in-Some c =
-    done_merge c.args.base.now c.args.first.now c.args.second.now _ _ _ _ _ _ c.live.ensures c.live-2.ensures c.live-3.ensures refl c.join.ensures _
-    (record { rows = c.join.new.out; count = c.in-Some.count }) c.in-Some.is refl refl
+pub returns-in_err-count : goal.returns-in_err-count
+returns-in_err-count c =
+    let refused : c.from_residual-in_err-count.result ≡ Err (DoesNotFit 0) = search rules in
+    full_merge c.args.base.now c.args.first.now c.args.second.now _ _ _ _ _ _ (held _ _ c.in_ok-live.ensures) (held _ _ c.in_ok-live-2.ensures) (held _ _ c.in_ok-live-3.ensures) refl
+    c.join.ensures _ c.in_err-count.ensures.ok_part refused
 
-pub returns-in-None : goal.returns-in-None
-returns-in-None c =
-    full_merge c.args.base.now c.args.first.now c.args.second.now _ _ _ _ _ _ c.live.ensures c.live-2.ensures c.live-3.ensures refl c.join.ensures _
-    c.in-None.is refl
+pub returns : goal.returns
+returns c =
+    done_merge c.args.base.now c.args.first.now c.args.second.now _ _ _ _ _ _ (held _ _ c.in_ok-live.ensures) (held _ _ c.in_ok-live-2.ensures) (held _ _ c.in_ok-live-3.ensures) refl
+    c.join.ensures _ (record { rows = c.join.new.out; count = c.in_ok-count.count }) c.in_ok-count.ensures.ok_part refl refl

@@ -1,10 +1,9 @@
-use Rattle.std.proofs.Common.{take}
+use Rattle.std.proofs.Common.{rules}
+use Rattle.std.proofs.lemmas.Result.{MatchResult-weaker}
 use Rattle.sets.proofs.Calls as calls
 use Rattle.sets.proofs.set_kind.SetFormKind.answer.Goals as goal
 
-pub returns-in-Some-checked : goal.returns-in-Some-checked
-returns-in-Some-checked c =
-    let known = c.in-Some.ensures in
-    let same = c.in-Some-checked.ensures in
-    calls.answers c.args.self.now c.args.question c.in-Some.object c.has.result c.told.result
-    (take c.in-Some-checked.value.count c.in-Some-checked.value.rows) known.0 known.1 c.told.ensures c.has.ensures (λ i. take (same.1 i) (same.0 i))
+pub returns : goal.returns
+returns c =
+    let known = rw c.in_ok-object.ensures.ok_part at c.asked.ensures in
+    calls.answers c.is_ok_and-member.result c.try_from.result known.0 known.1 c.try_from.ensures (MatchResult-weaker c.try_from.result c.is_ok_and-member.ensures (λ x p. search rules) (λ _ p. p)) c.told.ensures

@@ -1,19 +1,22 @@
+use Rattle.std.proofs.Common.{arith, rules}
 use Rattle.store.proofs.Books.{head_below}
-use Rattle.store.proofs.Writes.{merge_appends}
+use Rattle.store.proofs.Writes.{merge_into, merge_source, merge_room, merge_appends}
 use Rattle.store.proofs.store.Store.add_merge.Goals as goal
 
-pub counts-requires : goal.counts-requires
-counts-requires g c = head_below c.args.self.now c.args.into c.requires.0
+pub bounds-self-self : goal.bounds-self-self
+bounds-self-self g c =
+    let s = c.args.self.now in
+    omega (arith, head_below s c.args.into (merge_into s c.args.into c.args.from c.requires.possible), s.within, s.versioned)
 
-pub counts-requires-2 : goal.counts-requires-2
-counts-requires-2 g c = head_below c.args.self.now c.args.from c.requires.1.0
+pub bounds-self-self-2 : goal.bounds-self-self-2
+bounds-self-self-2 g c =
+    let s = c.args.self.now in
+    omega (arith, head_below s c.args.from (merge_source s c.args.into c.args.from c.requires.possible), s.within, s.versioned)
 
-pub append-requires : goal.append-requires
-append-requires g c = (
-  c.requires.0,
-  (
-    c.requires.1.1,
-    merge_appends c.args.self.now c.requires.1.1 c.args.into c.args.from c.counts.result c.counts-2.result c.higher-counts.result
-        c.requires.0 c.requires.1.0 c.counts.ensures c.counts-2.ensures c.higher-counts.ensures.size c.higher-counts.ensures.counts,
-  ),
-)
+pub append-requires-clause-room : goal.append-requires-clause-room
+append-requires-clause-room g c = merge_room c.args.self.now c.args.into c.args.from c.requires.possible
+
+pub append-requires-clause-appends : goal.append-requires-clause-appends
+append-requires-clause-appends g c =
+    merge_appends c.args.self.now c.args.into c.args.from c.requires.possible c.branchwise-version.result.counts c.branchwise-version.ensures.size
+    (λ x l. search (rules, c.branchwise-version.ensures.counts x l))

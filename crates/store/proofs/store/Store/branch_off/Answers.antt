@@ -1,18 +1,10 @@
-use Rattle.std.proofs.Common.{refl, arith, length-set}
-use Rattle.store.proofs.Asks.{forking_none, forking_missing, forking_full, forking_made}
+use Rattle.std.proofs.Common.{Ok, refl, arith, length-set}
+use Rattle.store.specs.Attempt.{after_fork}
+use Rattle.store.specs.Views.{memory}
+use Rattle.store.proofs.Asks.{forking_made}
+use Rattle.store.proofs.Stores.{fork_attempted, still_held}
 use Rattle.store.proofs.Writes.{fork_possible, fork_recorded, fork_standing, fork_numbered, fork_counted}
 use Rattle.store.proofs.store.Store.branch_off.Goals as goal
-
-pub returns-then-self-eq0 : goal.returns-then-self-eq0
-returns-then-self-eq0 g c = record { result = forking_none c.args.self.now c.args.version c.if-self-eq0.true; written = refl }
-
-pub returns-then-version-self : goal.returns-then-version-self
-returns-then-version-self g c =
-    record { result = forking_missing c.args.self.now c.args.version (omega (arith, c.if-self-eq0.false)) c.if-version-self.true; written = refl }
-
-pub returns-then-self-ge16 : goal.returns-then-self-ge16
-returns-then-self-ge16 g c =
-    record { result = forking_full c.args.self.now c.args.version c.if-version-self.false c.if-self-ge16.true; written = refl }
 
 pub invariant_of-self : goal.invariant_of-self
 invariant_of-self g c =
@@ -34,7 +26,5 @@ invariant_of-self g c =
       recorded = fork_recorded s v vl bl;
       standing = fork_standing s v vl bl;
       numbered = fork_numbered s v vl bl;
+      held = still_held s (fork_attempted s v (Ok s.branches) (after_fork (memory s) v) (forking_made s v vl bl) refl);
     }
-
-pub returns : goal.returns
-returns g c = record { result = forking_made c.args.self.now c.args.version c.if-version-self.false c.if-self-ge16.false; written = refl }

@@ -1,41 +1,68 @@
+use Rattle.std.proofs.Common.{◌<◌, Err, sym, ap, ◌∙◌, arith, rules}
 use Rattle.std.proofs.lemmas.Bool.{both_ways}
-use Rattle.store.proofs.Asks.{first_below, merging_sourceless, merging_seen, merging_baseless, merging_full, merging_from}
-use Rattle.store.proofs.Books.{head_below}
+use Rattle.std.proofs.lemmas.Result.{err_from_is_err_and}
+use Rattle.calls.specs.declared.fault.StoreFault.TheVariants.{NoBase}
+use Rattle.store.proofs.Asks.{refused_by, first_below, second_below, merging_seen, merging_baseless, merging_full, merging_from}
 use Rattle.store.proofs.store.Store.meet.Goals as goal
 
-pub counts-ours-requires : goal.counts-ours-requires
-counts-ours-requires g c = first_below c.args.self.now c.args.into c.in_ok-first.first c.in_ok-first.ensures
+pub offset_bounds-self-first : goal.offset_bounds-self-first
+offset_bounds-self-first g c =
+    let s = c.args.self.now in
+    let few : c.in_ok-first.first < 4096 = omega (arith, first_below s c.args.into c.in_ok-first.first c.in_ok-first.ensures, s.within, s.small) in search rules
 
-pub counts-theirs-requires : goal.counts-theirs-requires
-counts-theirs-requires g c = head_below c.args.self.now c.args.from c.if-from-self.false
+pub bounds-self-first : goal.bounds-self-first
+bounds-self-first g c =
+    let s = c.args.self.now in
+    omega (arith, first_below s c.args.into c.in_ok-first.first c.in_ok-first.ensures, s.within, s.versioned)
 
-pub returns-then-from-self : goal.returns-then-from-self
-returns-then-from-self g c =
-    merging_sourceless c.args.self.now c.args.into c.in_ok-first.first c.in_ok-first.ensures c.args.from c.if-from-self.true
+pub offset_bounds-self-second : goal.offset_bounds-self-second
+offset_bounds-self-second g c =
+    let s = c.args.self.now in
+    let few : c.in_ok-second.second < 4096 =
+    omega (
+      arith,
+      second_below s c.args.into c.in_ok-first.first c.in_ok-first.ensures c.args.from c.in_ok-second.second
+          c.head_if_there.result c.head_if_there.ensures c.in_ok-second.ensures.ok_part,
+      s.within,
+      s.small,
+    ) in search rules
+
+pub bounds-self-second : goal.bounds-self-second
+bounds-self-second g c =
+    let s = c.args.self.now in
+    omega (
+      arith,
+      second_below s c.args.into c.in_ok-first.first c.in_ok-first.ensures c.args.from c.in_ok-second.second
+          c.head_if_there.result c.head_if_there.ensures c.in_ok-second.ensures.ok_part,
+      s.within,
+      s.versioned,
+    )
 
 pub returns-then-within : goal.returns-then-within
 returns-then-within g c =
-    merging_seen c.args.self.now c.args.into c.in_ok-first.first c.in_ok-first.ensures c.args.from c.if-from-self.false
-    c.counts-ours.result c.counts-theirs.result c.counts-ours.ensures c.counts-theirs.ensures
-    (c.within.ensures.0 c.if-within.true)
+    merging_seen c.args.self.now c.args.into c.in_ok-first.first c.in_ok-first.ensures c.args.from c.in_ok-second.second
+    c.head_if_there.result c.head_if_there.ensures c.in_ok-second.ensures.ok_part (search (rules, c.within.ensures.0))
 
-pub returns-in_default : goal.returns-in_default
-returns-in_default g c =
-    merging_baseless c.args.self.now c.args.into c.in_ok-first.first c.in_ok-first.ensures c.args.from c.if-from-self.false
-    c.counts-ours.result c.counts-theirs.result c.counts-ours.ensures c.counts-theirs.ensures
-    c.lower.result c.lower.ensures.counts (λ l. both_ways c.within.result c.if-within.false (c.within.ensures.1 l))
-    c.in_default.ensures
+pub returns-in_err-base : goal.returns-in_err-base
+returns-in_err-base g c =
+    let p = err_from_is_err_and c.from_residual-in_err-base.result c.from_residual-in_err-base.ensures.1 in
+    let q = refused_by c.lowest.result (NoBase c.args.into) c.in_err-base.field-0.0 c.in_err-base.ensures.value in
+    p.1 ∙ ap Err (p.2 ∙ q.1)
+    ∙ merging_baseless c.args.self.now c.args.into c.in_ok-first.first c.in_ok-first.ensures c.args.from c.in_ok-second.second
+    c.head_if_there.result c.head_if_there.ensures c.in_ok-second.ensures.ok_part
+    c.branchwise-shared.result.counts c.branchwise-shared.ensures.size (λ x l. search (rules, c.branchwise-shared.ensures.counts x l)) (λ l. both_ways c.within.result c.if-within.false (c.within.ensures.1 l))
+    (sym c.lowest.ensures ∙ q.0)
 
 pub returns-then-self : goal.returns-then-self
 returns-then-self g c =
-    merging_full c.args.self.now c.args.into c.in_ok-first.first c.in_ok-first.ensures c.args.from c.if-from-self.false
-    c.counts-ours.result c.counts-theirs.result c.counts-ours.ensures c.counts-theirs.ensures
-    c.lower.result c.lower.ensures.counts (λ l. both_ways c.within.result c.if-within.false (c.within.ensures.1 l))
-    c.in-Some.base c.in-Some.ensures.0 c.in-Some.ensures.1.0 c.if-self.true
+    merging_full c.args.self.now c.args.into c.in_ok-first.first c.in_ok-first.ensures c.args.from c.in_ok-second.second
+    c.head_if_there.result c.head_if_there.ensures c.in_ok-second.ensures.ok_part
+    c.branchwise-shared.result.counts c.branchwise-shared.ensures.size (λ x l. search (rules, c.branchwise-shared.ensures.counts x l)) (λ l. both_ways c.within.result c.if-within.false (c.within.ensures.1 l))
+    c.in_ok-base.base (sym c.lowest.ensures ∙ c.in_ok-base.ensures.ok_part) c.if-self.true
 
 pub returns : goal.returns
 returns g c =
-    merging_from c.args.self.now c.args.into c.in_ok-first.first c.in_ok-first.ensures c.args.from c.if-from-self.false
-    c.counts-ours.result c.counts-theirs.result c.counts-ours.ensures c.counts-theirs.ensures
-    c.lower.result c.lower.ensures.counts (λ l. both_ways c.within.result c.if-within.false (c.within.ensures.1 l))
-    c.in-Some.base c.in-Some.ensures.0 c.in-Some.ensures.1.0 c.if-self.false c.in-Some.ensures.1.1
+    merging_from c.args.self.now c.args.into c.in_ok-first.first c.in_ok-first.ensures c.args.from c.in_ok-second.second
+    c.head_if_there.result c.head_if_there.ensures c.in_ok-second.ensures.ok_part
+    c.branchwise-shared.result.counts c.branchwise-shared.ensures.size (λ x l. search (rules, c.branchwise-shared.ensures.counts x l)) (λ l. both_ways c.within.result c.if-within.false (c.within.ensures.1 l))
+    c.in_ok-base.base (sym c.lowest.ensures ∙ c.in_ok-base.ensures.ok_part) c.if-self.false

@@ -1,0 +1,104 @@
+-- Lists: their members, what passes a test, and what a filter keeps.
+use Rattle.std.specs.Prelude.{◌≡◌, ◌<◌, Bool, true, false, cond, ◌&&◌, ◌||◌, ◌⊎◌, List, [], ◌∷◌, ◌++◌, filter, refl}
+use Rattle.std.specs.List.{list_any}
+use Rattle.std.proofs.Common.{sym, ap, subst, ◌∙◌, inl, inr, ⊎_elim, arith, rules, tests}
+use Rattle.std.proofs.lemmas.Bool.{false_from_ne_true, both_ways, or_cases, or_left, or_right}
+use Rattle.std.proofs.lemmas.Grind.{common_steps}
+use Rattle.kinds.specs.Events.{Event, Seen, In, Rising, pick}
+use Rattle.kinds.proofs.Picks.{in_cons, in_none}
+
+-- ---- members
+pub data Mem {A : Type 0} (x : A) : List A → Type 0 where
+  first : {xs : List A} → Mem x (x ∷ xs)
+  after : {y : A} {xs : List A} → Mem x xs → Mem x (y ∷ xs)
+
+pub mem_none : {A : Type 0} {x : A} → Mem x [] → ⊥
+mem_none m = elim m [ ]
+
+pub mem_cons : {A : Type 0} {x y : A} {xs : List A} → Mem x (y ∷ xs) → (y ≡ x) ⊎ Mem x xs
+mem_cons first = inl refl
+mem_cons (after m) = inr m
+
+pub mem_append : {A : Type 0} {x : A} (xs : List A) {ys : List A} → Mem x (xs ++ ys) → Mem x xs ⊎ Mem x ys
+mem_append [] m = inr m
+mem_append (y ∷ xs) first = inl first
+mem_append (y ∷ xs) (after m) = ⊎_elim (λ j. inl (after j)) inr (mem_append xs m)
+
+pub mem_kept : {A : Type 0} (p : A → Bool) {x : A} (xs : List A) → Mem x (filter p xs) → p x ≡ true
+mem_kept p [] m = absurd (mem_none m)
+mem_kept {A} p {x} (y ∷ xs) m = go (p y) refl (mem_kept p xs) m
+  where
+    go : (t : Bool) → p y ≡ t → (Mem x (filter p xs) → p x ≡ true) → Mem x (cond t (y ∷ filter p xs) (filter p xs)) → p x ≡ true
+    go true e ih k = ⊎_elim (λ q. sym (ap p q) ∙ e) ih (mem_cons k)
+    go false e ih k = ih k
+
+-- ---- tests
+pub any_found : {A : Type 0} (p : A → Bool) (xs : List A) → list_any p xs ≡ true → (x : A) × Mem x xs × (p x ≡ true)
+any_found p [] h = absurd cc
+any_found p (x ∷ xs) h =
+    elim (or_cases (p x) (list_any p xs) h) [ inl y ↦ (x, first, y) | inr y ↦ let r = any_found p xs y in (r.0, after r.1, r.2) ]
+
+pub any_mem : {A : Type 0} (p : A → Bool) {x : A} {xs : List A} → Mem x xs → p x ≡ true → list_any p xs ≡ true
+any_mem p {x} (first {xs = xs}) y = or_left (p x) (list_any p xs) y
+any_mem p (after {y = y} {xs = xs} m) h = or_right (p y) (list_any p xs) (any_mem p m h)
+
+pub any_absent : {A : Type 0} (p : A → Bool) (xs : List A) → ((x : A) → Mem x xs → p x ≡ false) → list_any p xs ≡ false
+any_absent p xs h = false_from_ne_true (list_any p xs) (λ y. let r = any_found p xs y in both_ways (p r.0) (h r.0 r.1) r.2)
+
+-- tests that agree on the members
+pub any_same : {A : Type 0} (p q : A → Bool) (xs : List A) → ((x : A) → Mem x xs → p x ≡ q x) → list_any p xs ≡ list_any q xs
+any_same p q [] h = refl
+any_same p q (x ∷ xs) h = let e = h x first in let more = any_same p q xs (λ y m. h y (after m)) in cc
+
+pub any_or : {A : Type 0} (p q : A → Bool) (xs : List A) → list_any (λ x. p x || q x) xs ≡ (list_any p xs || list_any q xs)
+any_or p q [] = refl
+any_or p q (x ∷ xs) = let more = any_or p q xs in search (rules, tests)
+
+-- a test of what a filter keeps
+pub any_kept : {A : Type 0} (p s : A → Bool) (xs : List A) → list_any p (filter s xs) ≡ list_any (λ x. s x && p x) xs
+any_kept p s [] = refl
+any_kept p s (x ∷ xs) = let more = any_kept p s xs in search (rules, tests)
+
+-- a filter that loses nothing which passes the test
+pub any_through : {A : Type 0} (s p : A → Bool) (xs : List A) → ((x : A) → p x ≡ true → s x ≡ true) → list_any p (filter s xs) ≡ list_any p xs
+any_through s p [] h = refl
+any_through s p (x ∷ xs) h = let more = any_through s p xs h in let e = h x in grind (arith, common_steps)
+
+-- ---- filters
+pub kept_same : (p q : Event → Bool) (es : List Event) → ((e : Event) → In e es → p e ≡ q e) → filter p es ≡ filter q es
+kept_same p q [] h = refl
+kept_same p q (e ∷ es) h = let more = kept_same p q es (λ f i. h f (In.there i)) in let same = h e In.here in cc
+
+-- a filter that keeps only what a set picks
+pub kept_pick : (s : Seen) (p : Event → Bool) (es : List Event) → ((e : Event) → p e ≡ true → s e.number ≡ true) → filter p (pick s es) ≡ filter p es
+unfolding pick
+kept_pick s p [] h = refl
+kept_pick s p (e ∷ es) h = let more = kept_pick s p es h in let seen = h e in grind (arith, common_steps)
+
+-- one filter after another
+pub kept_kept : {A : Type 0} (q p : A → Bool) (xs : List A) → filter q (filter p xs) ≡ filter (λ x. p x && q x) xs
+kept_kept q p [] = refl
+kept_kept q p (x ∷ xs) = let more = kept_kept q p xs in search (rules, tests)
+
+pub kept_all : (p : Event → Bool) (es : List Event) → ((e : Event) → In e es → p e ≡ true) → filter p es ≡ es
+kept_all p [] h = refl
+kept_all p (e ∷ es) h = let more = kept_all p es (λ f i. h f (In.there i)) in let passes = h e In.here in cc
+
+pub of_kept : (p : Event → Bool) (es : List Event) (e : Event) → In e (filter p es) → In e es × (p e ≡ true)
+of_kept p [] e i = absurd (in_none i)
+of_kept p (f ∷ es) e i = go (p f) refl (of_kept p es e) i
+  where
+    go : (t : Bool) → p f ≡ t → (In e (filter p es) → In e es × (p e ≡ true)) → In e (cond t (f ∷ filter p es) (filter p es)) → In e (f ∷ es) × (p e ≡ true)
+    go true q ih j = ⊎_elim (λ c. subst (λ x. In x (f ∷ es) × (p x ≡ true)) c (In.here, q)) (λ k. let r = ih k in (In.there r.0, r.1)) (in_cons j)
+    go false q ih j = let r = ih j in (In.there r.0, r.1)
+
+pub rising_kept : (p : Event → Bool) {es : List Event} → Rising es → Rising (filter p es)
+rising_kept p Rising.none = Rising.none
+rising_kept p (Rising.one {e} {es} above rest) = go (p e) (rising_kept p rest)
+  where
+    go : (t : Bool) → Rising (filter p es) → Rising (cond t (e ∷ filter p es) (filter p es))
+    go true ih = Rising.one (λ f i. above f (of_kept p es f i).0) ih
+    go false ih = ih
+
+pub above_first : {e : Event} {es : List Event} → Rising (e ∷ es) → (f : Event) → In f es → e.number < f.number
+above_first (Rising.one above rest) = above
