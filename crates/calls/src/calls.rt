@@ -2,7 +2,7 @@
 use kinds::{Change, Question};
 
 // A call that can make a branch or a version.
-#[derive(Clone, Copy)]
+#[derive(Clone, Copy, PartialEq, Eq, Debug)]
 pub enum Action {
     // at a version
     Fork(u32),
@@ -12,7 +12,7 @@ pub enum Action {
     Merge(u8, u8),
 }
 
-#[derive(Clone, Copy)]
+#[derive(Clone, Copy, PartialEq, Eq, Debug)]
 pub enum Call {
     Act(Action),
     // to a branch
@@ -32,7 +32,7 @@ pub enum Reply {
 }
 
 // An accepted call that made a branch or a version.
-#[derive(Clone, Copy)]
+#[derive(Clone, Copy, PartialEq, Eq, Debug)]
 pub struct Step {
     pub action: Action,
 }

@@ -23,7 +23,6 @@ pub enum StoreFault {
     OfKind(KindFault),
 }
 
-// By hand, since a derive would have no contract: `from_gives` is what callers learn of a `?`.
 impl From<KindFault> for StoreFault {
     ghost from_gives = { λ e r. r ≡ OfKind e };
 
@@ -96,19 +95,16 @@ impl StoreFault {
     }
 }
 
-// As in '4 at branch 9: there is no such branch'. By hand, since a derive would have no contract, and `output` promises the text.
+// As in '4 at branch 9: there is no such branch'.
 impl fmt::Display for StoreFault {
     ghost output = { λ fault. Some (text_of fault) };
 
     fn fmt<W: fmt::Write>(&self, f: &mut fmt::Formatter<W>) -> fmt::Result {
-        write!(
-            f,
-            "{} at {} {}: {}",
-            self.number(),
-            self.subject(),
-            self.holds(),
-            self.words()
-        )
+        let number = self.number();
+        let subject = self.subject();
+        let holds = self.holds();
+        let words = self.words();
+        write!(f, "{number} at {subject} {holds}: {words}")
     }
 }
 

@@ -34,11 +34,14 @@ outer_result side (Ok v) = Ok v
 outer_result side (Err f) = Err (outer_fault side f)
 
 -- that is what the result x of side s becomes where its fault is mapped
-pub mapped : {A : Type 0} (s : Side) (x y : Result A KindFault) (post : KindFault → KindFault → Type 0) → MatchResult x (λ v. y ≡ Ok v) (λ e. IsErrAnd y (post e)) →
-    ((e f : KindFault) → post e f → f ≡ outer_fault s e) → y ≡ outer_result s x
-mapped s (Ok v) y post m says = m
-mapped s (Err e) (Ok w) post m says = absurd m
-mapped s (Err e) (Err f) post m says = ap Err (says e f m)
+pub mapped : {A : Type 0} (s : Side) (x : Result A KindFault) {y w : Result A KindFault} {post : KindFault → KindFault → Type 0} → MatchResult x (λ v. y ≡ Ok v) (λ e. IsErrAnd y (post e)) →
+    ((e f : KindFault) → post e f → f ≡ outer_fault s e) → y ≡ w → w ≡ outer_result s x
+mapped {A} s x {y} {w} {post} m says is = sym is ∙ go x y m
+  where
+    go : (x y : Result A KindFault) → MatchResult x (λ v. y ≡ Ok v) (λ e. IsErrAnd y (post e)) → y ≡ outer_result s x
+    go (Ok v) y m = m
+    go (Err e) (Ok w) m = absurd m
+    go (Err e) (Err f) m = ap Err (says e f m)
 
 -- where s is this side, and x this result of the side's part
 pub sent_out : {A : Type 0} (side s : Side) (x w y : Result A KindFault) → s ≡ side → x ≡ w → y ≡ outer_result s x → y ≡ outer_result side w
@@ -165,25 +168,29 @@ module _ {X Y : Type 0} (l r : Meaning) (P : X → List Event → Type 0) (Q : Y
         subst (λ (z : Y). Q z (part Right h)) (sym (same_value (j ∙ ap (outer_result Right) e))) w,
       )
 
--- The three ends of a pair's merge, which begins with the left part: x and y are what the parts' merges give.
+-- The three ends of a pair's merge, which begins with the left part: x and y are what the parts' merges give, and x' and y' are these
+-- where their faults are mapped.
 module _ {X Y : Type 0} (l r : Meaning) (P : X → List Event → Type 0) (Q : Y → List Event → Type 0) (base first second : Pair X Y) where
   abbrev Owed : Result (Pair X Y) KindFault → Type 0
   Owed z = Merges (pair l r) (λ v h. P v.left (part Left h) × Q v.right (part Right h)) base first second z
 
-  module _ (x : Result X KindFault) (on-left : Merges l P base.left first.left second.left x) where
-    pub merge_stops_left : (f : KindFault) (z : Result (Pair X Y) KindFault) → z ≡ Err f → ◌≡◌ {A = Result X KindFault} (Err f) (outer_result Left x) → Owed z
+  module _ (x : Result X KindFault) (on-left : Merges l P base.left first.left second.left x) {x' : Result X KindFault} {left-post : KindFault → KindFault → Type 0}
+      (left-mapped : MatchResult x (λ v. x' ≡ Ok v) (λ e. IsErrAnd x' (left-post e))) (left-says : (e f : KindFault) → left-post e f → f ≡ outer_fault Left e) where
+    pub merge_stops_left : (f : KindFault) (z : Result (Pair X Y) KindFault) → z ≡ Err f → x' ≡ Err f → Owed z
     merge_stops_left f z e o w a b H K ca cb r0 r1 r2 =
         subst (λ (m : Result (Pair X Y) KindFault). Merged (pair l r) (Both P Q) (pick (joined a b) w) m) (sym e)
-        (left_named l r P Q (pick (joined a b) w) x f o (part_merged l r Left P _ _ _ x on-left w a b H K ca cb r0.0 r1.0 r2.0))
+        (left_named l r P Q (pick (joined a b) w) x f (mapped Left x left-mapped left-says o) (part_merged l r Left P _ _ _ x on-left w a b H K ca cb r0.0 r1.0 r2.0))
 
-    module _ (u : X) (i : Ok u ≡ outer_result Left x) (y : Result Y KindFault) (on-right : Merges r Q base.right first.right second.right y) where
-      pub merge_stops_right : (f : KindFault) (z : Result (Pair X Y) KindFault) → z ≡ Err f → ◌≡◌ {A = Result Y KindFault} (Err f) (outer_result Right y) → Owed z
+    module _ (u : X) (i : x' ≡ Ok u) (y : Result Y KindFault) (on-right : Merges r Q base.right first.right second.right y) {y' : Result Y KindFault}
+        {right-post : KindFault → KindFault → Type 0} (right-mapped : MatchResult y (λ v. y' ≡ Ok v) (λ e. IsErrAnd y' (right-post e)))
+        (right-says : (e f : KindFault) → right-post e f → f ≡ outer_fault Right e) where
+      pub merge_stops_right : (f : KindFault) (z : Result (Pair X Y) KindFault) → z ≡ Err f → y' ≡ Err f → Owed z
       merge_stops_right f z e o w a b H K ca cb r0 r1 r2 =
           subst (λ (m : Result (Pair X Y) KindFault). Merged (pair l r) (Both P Q) (pick (joined a b) w) m) (sym e)
-          (right_named l r P Q (pick (joined a b) w) x y f u i o
+          (right_named l r P Q (pick (joined a b) w) x y f u (mapped Left x left-mapped left-says i) (mapped Right y right-mapped right-says o)
           (part_merged l r Left P _ _ _ x on-left w a b H K ca cb r0.0 r1.0 r2.0) (part_merged l r Right Q _ _ _ y on-right w a b H K ca cb r0.1 r1.1 r2.1))
 
-      pub merge_ends : (v : Y) → Ok v ≡ outer_result Right y → Owed (Ok (record { left = u; right = v }))
-      merge_ends v j w a b H K ca cb r0 r1 r2 =
-          both_made l r P Q (pick (joined a b) w) x y u v i j
+      pub merge_ends : (v : Y) → y' ≡ Ok v → Owed (Ok (record { left = u; right = v }))
+      merge_ends v o w a b H K ca cb r0 r1 r2 =
+          both_made l r P Q (pick (joined a b) w) x y u v (mapped Left x left-mapped left-says i) (mapped Right y right-mapped right-says o)
           (part_merged l r Left P _ _ _ x on-left w a b H K ca cb r0.0 r1.0 r2.0) (part_merged l r Right Q _ _ _ y on-right w a b H K ca cb r0.1 r1.1 r2.1)

@@ -16,6 +16,8 @@ pub struct Question {
     pub argument: i32,
 }
 
+// A change and a question are two types, so that neither is taken for the other: `halved` stands twice, since a trait with a law for a
+// function of one line would be no plainer.
 impl Change {
     // The change as a pair's part gets it.
     pub(crate) fn halved(self) -> Change

@@ -1,54 +1,17 @@
--- Lists: their members, what passes a test, and what a filter keeps.
-use Rattle.std.specs.Prelude.{◌≡◌, ◌<◌, Bool, true, false, cond, ◌&&◌, ◌||◌, ◌⊎◌, List, [], ◌∷◌, ◌++◌, filter, refl}
-use Rattle.std.specs.List.{list_any}
-use Rattle.std.proofs.Common.{sym, ap, subst, ◌∙◌, inl, inr, ⊎_elim, arith, rules, tests}
-use Rattle.std.proofs.lemmas.Bool.{false_from_ne_true, both_ways, or_cases, or_left, or_right}
+-- What passes a test, and what a filter keeps of events.
+use Rattle.std.specs.Prelude.{◌≡◌, ◌<◌, Bool, true, false, cond, ◌&&◌, ◌||◌, List, [], ◌∷◌, filter, refl}
+use Rattle.std.specs.List.{All, list_any}
+use Rattle.std.proofs.Common.{subst, ⊎_elim, arith, rules, tests}
+use Rattle.std.proofs.lemmas.List.Elements.{All-head, All-tail}
 use Rattle.std.proofs.lemmas.Grind.{common_steps}
 use Rattle.kinds.specs.Events.{Event, Seen, In, Rising, pick}
 use Rattle.kinds.proofs.Picks.{in_cons, in_none}
 
--- ---- members
-pub data Mem {A : Type 0} (x : A) : List A → Type 0 where
-  first : {xs : List A} → Mem x (x ∷ xs)
-  after : {y : A} {xs : List A} → Mem x xs → Mem x (y ∷ xs)
-
-pub mem_none : {A : Type 0} {x : A} → Mem x [] → ⊥
-mem_none m = elim m [ ]
-
-pub mem_cons : {A : Type 0} {x y : A} {xs : List A} → Mem x (y ∷ xs) → (y ≡ x) ⊎ Mem x xs
-mem_cons first = inl refl
-mem_cons (after m) = inr m
-
-pub mem_append : {A : Type 0} {x : A} (xs : List A) {ys : List A} → Mem x (xs ++ ys) → Mem x xs ⊎ Mem x ys
-mem_append [] m = inr m
-mem_append (y ∷ xs) first = inl first
-mem_append (y ∷ xs) (after m) = ⊎_elim (λ j. inl (after j)) inr (mem_append xs m)
-
-pub mem_kept : {A : Type 0} (p : A → Bool) {x : A} (xs : List A) → Mem x (filter p xs) → p x ≡ true
-mem_kept p [] m = absurd (mem_none m)
-mem_kept {A} p {x} (y ∷ xs) m = go (p y) refl (mem_kept p xs) m
-  where
-    go : (t : Bool) → p y ≡ t → (Mem x (filter p xs) → p x ≡ true) → Mem x (cond t (y ∷ filter p xs) (filter p xs)) → p x ≡ true
-    go true e ih k = ⊎_elim (λ q. sym (ap p q) ∙ e) ih (mem_cons k)
-    go false e ih k = ih k
-
 -- ---- tests
-pub any_found : {A : Type 0} (p : A → Bool) (xs : List A) → list_any p xs ≡ true → (x : A) × Mem x xs × (p x ≡ true)
-any_found p [] h = absurd cc
-any_found p (x ∷ xs) h =
-    elim (or_cases (p x) (list_any p xs) h) [ inl y ↦ (x, first, y) | inr y ↦ let r = any_found p xs y in (r.0, after r.1, r.2) ]
-
-pub any_mem : {A : Type 0} (p : A → Bool) {x : A} {xs : List A} → Mem x xs → p x ≡ true → list_any p xs ≡ true
-any_mem p {x} (first {xs = xs}) y = or_left (p x) (list_any p xs) y
-any_mem p (after {y = y} {xs = xs} m) h = or_right (p y) (list_any p xs) (any_mem p m h)
-
-pub any_absent : {A : Type 0} (p : A → Bool) (xs : List A) → ((x : A) → Mem x xs → p x ≡ false) → list_any p xs ≡ false
-any_absent p xs h = false_from_ne_true (list_any p xs) (λ y. let r = any_found p xs y in both_ways (p r.0) (h r.0 r.1) r.2)
-
--- tests that agree on the members
-pub any_same : {A : Type 0} (p q : A → Bool) (xs : List A) → ((x : A) → Mem x xs → p x ≡ q x) → list_any p xs ≡ list_any q xs
+-- tests that agree on each element of a list
+pub any_same : {A : Type 0} (p q : A → Bool) (xs : List A) → All (λ x. p x ≡ q x) xs → list_any p xs ≡ list_any q xs
 any_same p q [] h = refl
-any_same p q (x ∷ xs) h = let e = h x first in let more = any_same p q xs (λ y m. h y (after m)) in cc
+any_same p q (x ∷ xs) h = let e = All-head (λ y. p y ≡ q y) x xs h in let more = any_same p q xs (All-tail (λ y. p y ≡ q y) x xs h) in cc
 
 pub any_or : {A : Type 0} (p q : A → Bool) (xs : List A) → list_any (λ x. p x || q x) xs ≡ (list_any p xs || list_any q xs)
 any_or p q [] = refl
@@ -58,11 +21,6 @@ any_or p q (x ∷ xs) = let more = any_or p q xs in search (rules, tests)
 pub any_kept : {A : Type 0} (p s : A → Bool) (xs : List A) → list_any p (filter s xs) ≡ list_any (λ x. s x && p x) xs
 any_kept p s [] = refl
 any_kept p s (x ∷ xs) = let more = any_kept p s xs in search (rules, tests)
-
--- a filter that loses nothing which passes the test
-pub any_through : {A : Type 0} (s p : A → Bool) (xs : List A) → ((x : A) → p x ≡ true → s x ≡ true) → list_any p (filter s xs) ≡ list_any p xs
-any_through s p [] h = refl
-any_through s p (x ∷ xs) h = let more = any_through s p xs h in let e = h x in grind (arith, common_steps)
 
 -- ---- filters
 pub kept_same : (p q : Event → Bool) (es : List Event) → ((e : Event) → In e es → p e ≡ q e) → filter p es ≡ filter q es

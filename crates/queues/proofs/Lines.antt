@@ -4,6 +4,8 @@ use Rattle.std.proofs.Common.{sym, subst, ◌∙◌, inl, inr, rules, tests}
 use Rattle.std.proofs.Math.Path.{ap}
 use Rattle.std.proofs.Math.Bool.{and-or_distrib_right}
 use Rattle.std.proofs.lemmas.Bool.{both_ways, not-true, eqb-true, eq-eqb, and_parts, and_from, cases_Bool}
+use Rattle.std.proofs.lemmas.List.Elements.{All-contains}
+use Rattle.std.proofs.lemmas.List.Folds.{Any-from_list_any, list_any-from_Any}
 use Rattle.std.specs.Ordering.{is_lt}
 use Rattle.kinds.specs.Events.{Event, Seen, In, Rising, pick, common, joined}
 use Rattle.kinds.specs.History.{History, Closed}
@@ -17,7 +19,7 @@ use Rattle.rows.proofs.Listed.{any_some, any_none, one_number, found, not_found}
 use Rattle.queues.specs.Queue.{is_put, took, waits, takings, waiting, waiting_in}
 use Rattle.queues.specs.Line.{wait_key, same_wait, wait_of, line}
 use Rattle.queues.specs.declared.wait.Wait.{Wait}
-use Rattle.queues.proofs.Kept.{mem_none, any_found, any_mem, any_same, any_or, any_kept}
+use Rattle.queues.proofs.Kept.{any_or, any_kept}
 use Rattle.queues.proofs.Takings.{taken_in, takings_part, takings_all}
 
 -- rows stand in the order of their events' numbers
@@ -58,10 +60,11 @@ module _ (w : List Event) (hist : History w) where
 
     took_own : (n : ℕ) → took s (takings w) n ≡ true → s n ≡ true
     took_own n y =
-        let r = any_found (λ t. s t.by && t.item == n) (takings w) y in
-        let b = and_parts (s r.0.by) (r.0.item == n) r.2 in
-        subst (λ k. s k ≡ true) (eqb-true r.0.item n b.1)
-        (takings_all (λ t. s t.by ≡ true → s t.item ≡ true) [] [] w (λ t m. absurd (mem_none m)) (λ f k i saw z. closed f k i z saw) r.0 r.1 b.0)
+        let r = Any-from_list_any (λ t. s t.by && t.item == n) (takings w) y in
+        let b = and_parts (s r.1.by) (r.1.item == n) r.4 in
+        subst (λ k. s k ≡ true) (eqb-true r.1.item n b.1)
+        (All-contains (λ t. s t.by ≡ true → s t.item ≡ true) (takings w) r.1
+        (takings_all (λ t. s t.by ≡ true → s t.item ≡ true) w (λ f k i saw z. closed f k i z saw)) (r.0, r.2, r.3) b.0)
 
     pub rises_line : rises nat_cmp wait_key (line (pick s w)) ≡ true
     rises_line = subst (λ xs. rises nat_cmp wait_key xs ≡ true) (sym line_is) (line_rises waits_there None (rising_pick s hist.rising) (λ e i. refl))
@@ -99,14 +102,13 @@ module _ (w : List Event) (hist : History w) where
     -- what a take of both parts took, a take of each took
     less : (s : Seen) → ((n : ℕ) → common a b n ≡ true → s n ≡ true) → (n : ℕ) → took (common a b) (takings w) n ≡ true → took s (takings w) n ≡ true
     less s h n y =
-        let r = any_found (λ t. common a b t.by && t.item == n) (takings w) y in
-        let c = and_parts (common a b r.0.by) (r.0.item == n) r.2 in
-        any_mem (λ t. s t.by && t.item == n) r.1 (and_from (s r.0.by) (r.0.item == n) (h r.0.by c.0) c.1)
+        let r = Any-from_list_any (λ t. common a b t.by && t.item == n) (takings w) y in
+        let c = and_parts (common a b r.1.by) (r.1.item == n) r.4 in
+        list_any-from_Any (λ t. s t.by && t.item == n) (takings w) (r.0, r.1, r.2, r.3, and_from (s r.1.by) (r.1.item == n) (h r.1.by c.0) c.1)
 
     either : (n : ℕ) → took (joined a b) (takings w) n ≡ (took a (takings w) n || took b (takings w) n)
     either n =
-        any_same (λ t. joined a b t.by && t.item == n) (λ t. (a t.by && t.item == n) || (b t.by && t.item == n)) (takings w)
-        (λ t m. and-or_distrib_right (a t.by) (b t.by) (t.item == n))
+        (λ i. list_any (λ t. and-or_distrib_right (a t.by) (b t.by) (t.item == n) i) (takings w))
         ∙ any_or (λ t. a t.by && t.item == n) (λ t. b t.by && t.item == n) (takings w)
 
     abbrev Joined-at : ℕ → Type 0

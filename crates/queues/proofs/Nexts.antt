@@ -4,24 +4,23 @@ use Rattle.std.proofs.Math.Path.{refl, sym, ap}
 use Rattle.std.proofs.Common.{subst, ◌∙◌, arith, rules, tests}
 use mathlib.Core.List.{append-nil}
 use Rattle.std.proofs.lemmas.Bool.{and_from, eq-eqb, ne_eqb}
-use Rattle.std.proofs.lemmas.List.Elements.{filter-append}
-use Rattle.std.proofs.lemmas.List.Folds.{list_any-append}
+use Rattle.std.proofs.lemmas.List.Elements.{All-weaker, filter-append, filter_agree}
+use Rattle.std.proofs.lemmas.List.Folds.{list_any-append, list_any_none}
 use Rattle.std.proofs.lemmas.List.{map-append, drop-map}
 use Rattle.kinds.specs.Events.{Event, Rising}
 use Rattle.kinds.specs.History.{History, Next}
 use Rattle.queues.specs.Queue.{is_put, is_take, Taking, took, waits, waiting_in, first_taking, takings, waiting}
 use Rattle.queues.specs.Line.{wait_of, line}
-use Rattle.queues.proofs.Kept.{mem_none, any_absent, any_same, kept_same, kept_kept, kept_all, rising_kept, above_first}
+use Rattle.queues.proofs.Kept.{any_same, kept_same, kept_kept, kept_all, rising_kept, above_first}
 use Rattle.queues.proofs.Takings.{takings_all, takings_more}
 
 module _ (h : List Event) (e : Event) (H : History h) (N : Next h e) where
   -- ---- a put
   -- no take of the history took the event that comes next
   untaken : took (λ n. true) (takings h) e.number ≡ false
-  untaken = any_absent (λ t. nat_eq t.item e.number) (takings h)
-      (λ t m. let l = takings_all (λ t. t.item < e.number) [] [] h (λ t m. absurd (mem_none m))
-      (λ f n i saw. let a = H.earlier f n i saw in let b = N.above f i in omega arith) t m in
-      ne_eqb t.item e.number (λ (q : t.item ≡ e.number). omega arith))
+  untaken = list_any_none (λ t. nat_eq t.item e.number) (takings h)
+      (All-weaker (λ t. t.item < e.number) (λ t. nat_eq t.item e.number ≡ false) (λ t l. ne_eqb t.item e.number (λ (q : t.item ≡ e.number). omega arith)) (takings h)
+      (takings_all (λ t. t.item < e.number) h (λ f n i saw. let a = H.earlier f n i saw in let b = N.above f i in omega arith)))
 
   put_takings : is_take e ≡ false → takings (h ++ (e ∷ [])) ≡ takings h
   put_takings isnt = takings_more h e ∙ ap (λ b. takings h ++ cond b (first_taking e (waiting_in e.saw (takings h) h)) []) isnt ∙ append-nil (takings h)
@@ -47,7 +46,8 @@ module _ (h : List Event) (e : Event) (H : History h) (N : Next h e) where
     where
       same_took : (n : ℕ) → took e.saw (takings h) n ≡ took (λ k. true) (takings h) n
       same_took n = any_same (λ t. e.saw t.by && t.item == n) (λ t. nat_eq t.item n) (takings h)
-          (λ t m. ap (λ b. b && t.item == n) (takings_all (λ t. e.saw t.by ≡ true) [] [] h (λ t m. absurd (mem_none m)) (λ f k i saw. N.all f i) t m))
+          (All-weaker (λ t. e.saw t.by ≡ true) (λ t. (e.saw t.by && t.item == n) ≡ nat_eq t.item n) (λ t y. ap (λ b. b && t.item == n) y) (takings h)
+          (takings_all (λ t. e.saw t.by ≡ true) h (λ f k i saw. N.all f i)))
 
   take_takings : is_take e ≡ true → takings (h ++ (e ∷ [])) ≡ takings h ++ first_taking e (waiting h)
   take_takings is =
@@ -63,9 +63,9 @@ module _ (h : List Event) (e : Event) (H : History h) (N : Next h e) where
   unfolding waiting
   rest [] q = ap (λ ts. waiting_in (λ n. true) ts h) (append-nil (takings h)) ∙ q
   rest (p ∷ ps) q =
-      kept_same (waits (λ n. true) (takings h ++ first_taking e (p ∷ ps))) (λ f. waits (λ n. true) (takings h) f && others f) h
-      (λ f i. ap (λ b. is_put f && not b) (list_any-append (λ t. nat_eq t.item f.number) (takings h) (first_taking e (p ∷ ps)))
-      ∙ apart (is_put f) (took (λ n. true) (takings h) f.number) (p.number == f.number))
+      filter_agree (waits (λ n. true) (takings h ++ first_taking e (p ∷ ps))) (λ f. waits (λ n. true) (takings h) f && others f)
+      (λ f. ap (λ b. is_put f && not b) (list_any-append (λ t. nat_eq t.item f.number) (takings h) (first_taking e (p ∷ ps)))
+      ∙ apart (is_put f) (took (λ n. true) (takings h) f.number) (p.number == f.number)) h
       ∙ sym (kept_kept others (waits (λ n. true) (takings h)) h)
       ∙ ap (filter others) q
       ∙ ap {B = List Event} (λ b. cond (not b) (p ∷ filter others ps) (filter others ps)) (eq-eqb p.number p.number refl)

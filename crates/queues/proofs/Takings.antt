@@ -1,14 +1,15 @@
 -- What the takes of a history took: in parts of it, and with one event more.
 use Rattle.std.specs.Prelude.{◌≡◌, ℕ, Bool, true, false, cond, not, ◌&&◌, List, [], ◌∷◌, ◌++◌, filter, ◌==◌, refl}
-use Rattle.std.proofs.Common.{sym, ap, subst, ◌∙◌, append-nil, append_assoc, ⊎_elim}
+use Rattle.std.specs.List.{All}
+use Rattle.std.proofs.Common.{sym, ap, ◌∙◌, append-nil, append_assoc}
 use Rattle.std.proofs.lemmas.Bool.{and_parts}
-use Rattle.std.proofs.lemmas.List.Elements.{filter-append}
+use Rattle.std.proofs.lemmas.List.Elements.{All-nil, All-cons, All-head, All-append, All-weaker, filter-append, filter_agree, filter_passes}
+use Rattle.std.proofs.lemmas.Map.Views.{any-filter_same}
 use Rattle.kinds.specs.Events.{Event, Seen, In, pick}
 use Rattle.kinds.specs.History.{Closed}
 use Rattle.kinds.proofs.Picks.{pick_append, pick_yes, pick_no, pick_none}
 use Rattle.queues.specs.Queue.{is_put, is_take, Taking, took, waits, waiting_in, first_taking, taking, takings_from, takings}
-use Rattle.queues.proofs.Kept.{Mem, mem_none, mem_cons, mem_append, mem_kept, any_through, kept_same, kept_pick}
-use Rattle.queues.proofs.Kept as kept
+use Rattle.queues.proofs.Kept.{kept_pick}
 
 -- the takings by the takes of a part
 abbrev pub taken_in : Seen → List Taking → List Taking
@@ -17,9 +18,9 @@ taken_in s ts = filter (λ t. s t.by) ts
 -- what a take sees waiting is the same in a part that has all that it saw
 waiting_part : (s q : Seen) (ts : List Taking) (past : List Event) → ((n : ℕ) → q n ≡ true → s n ≡ true) → waiting_in q (taken_in s ts) (pick s past) ≡ waiting_in q ts past
 waiting_part s q ts past h =
-    kept_same (waits q (taken_in s ts)) (waits q ts) (pick s past)
-    (λ e i. ap (λ b. is_put e && (q e.number && not b))
-    (any_through (λ t. s t.by) (λ t. q t.by && t.item == e.number) ts (λ t y. h t.by (and_parts (q t.by) (t.item == e.number) y).0)))
+    filter_agree (waits q (taken_in s ts)) (waits q ts)
+    (λ e. ap (λ b. is_put e && (q e.number && not b))
+    (any-filter_same (λ t. q t.by && t.item == e.number) (λ t. s t.by) true (λ t y. h t.by (and_parts (q t.by) (t.item == e.number) y).0) ts)) (pick s past)
     ∙ kept_pick s (waits q ts) past
     (λ e y. h e.number (and_parts (q e.number) (not (took q ts e.number)) (and_parts (is_put e) (q e.number && not (took q ts e.number)) y).1).0)
 
@@ -68,27 +69,29 @@ takings_part s ts past (e ∷ es) c =
         (λ i. takings_from (sym (step_out s e ts past y) i) (same i) (pick s es)) ∙ ih
 
 -- ---- what holds of every taking
-firsts : (P : Taking → Type 0) (e : Event) (ps : List Event) → ((p : Event) → Mem p ps → P (record { by = e.number; item = p.number })) →
-    (t : Taking) → Mem t (first_taking e ps) → P t
-firsts P e [] h t m = absurd (mem_none m)
-firsts P e (p ∷ ps) h t m = ⊎_elim (λ q. subst P q (h p kept.first)) (λ k. absurd (mem_none k)) (mem_cons m)
+firsts : (P : Taking → Type 0) (e : Event) (ps : List Event) → All (λ p. P (record { by = e.number; item = p.number })) ps → All P (first_taking e ps)
+firsts P e [] h = All-nil P
+firsts P e (p ∷ ps) h = All-cons P (record { by = e.number; item = p.number }) [] (All-head (λ x. P (record { by = e.number; item = x.number })) p ps h) (All-nil P)
+
+from_all : (P : Taking → Type 0) (ts : List Taking) (past es : List Event) → All P ts →
+    ((f : Event) (n : ℕ) → In f es → f.saw n ≡ true → P (record { by = f.number; item = n })) → All P (takings_from ts past es)
+unfolding takings_from
+from_all P ts past [] h k = h
+from_all P ts past (e ∷ es) h k =
+    from_all P (ts ++ taking e ts past) (past ++ (e ∷ [])) es (All-append P ts (taking e ts past) h (go (is_take e))) (λ f n i. k f n (In.there i))
+  where
+    new : All (λ p. P (record { by = e.number; item = p.number })) (waiting_in e.saw ts past)
+    new = All-weaker (λ p. waits e.saw ts p ≡ true) (λ p. P (record { by = e.number; item = p.number }))
+        (λ p y. k e p.number In.here (and_parts (e.saw p.number) (not (took e.saw ts p.number)) (and_parts (is_put p) (e.saw p.number && not (took e.saw ts p.number)) y).1).0)
+        (waiting_in e.saw ts past) (filter_passes (waits e.saw ts) past)
+
+    go : (b : Bool) → All P (cond b (first_taking e (waiting_in e.saw ts past)) [])
+    go true = firsts P e (waiting_in e.saw ts past) new
+    go false = All-nil P
 
 -- to show a fact of every taking, show it of an event and what it saw
-pub takings_all : (P : Taking → Type 0) (ts : List Taking) (past es : List Event) → ((t : Taking) → Mem t ts → P t) →
-    ((f : Event) (n : ℕ) → In f es → f.saw n ≡ true → P (record { by = f.number; item = n })) → (t : Taking) → Mem t (takings_from ts past es) → P t
-unfolding takings_from
-takings_all P ts past [] h k = h
-takings_all P ts past (e ∷ es) h k =
-    takings_all P (ts ++ taking e ts past) (past ++ (e ∷ [])) es (go (is_take e)) (λ f n i. k f n (In.there i))
-  where
-    new : (p : Event) → Mem p (waiting_in e.saw ts past) → P (record { by = e.number; item = p.number })
-    new p m =
-        let y = mem_kept (waits e.saw ts) past m in
-        k e p.number In.here (and_parts (e.saw p.number) (not (took e.saw ts p.number)) (and_parts (is_put p) (e.saw p.number && not (took e.saw ts p.number)) y).1).0
-
-    go : (b : Bool) (t : Taking) → Mem t (ts ++ cond b (first_taking e (waiting_in e.saw ts past)) []) → P t
-    go true t m = ⊎_elim (h t) (firsts P e (waiting_in e.saw ts past) new t) (mem_append ts m)
-    go false t m = ⊎_elim (h t) (λ j. absurd (mem_none j)) (mem_append ts m)
+pub takings_all : (P : Taking → Type 0) (h : List Event) → ((f : Event) (n : ℕ) → In f h → f.saw n ≡ true → P (record { by = f.number; item = n })) → All P (takings h)
+takings_all P h k = from_all P [] [] h (All-nil P) k
 
 -- ---- one event more
 from_more : (ts : List Taking) (past es : List Event) (e : Event) →

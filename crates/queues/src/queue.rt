@@ -85,6 +85,7 @@ impl Kind for Queue {
 
     ghost fitting = { Fits.fitting };
 
+    #[tactic(auto, unfolding(crate::specs::Queue::takings_from, crate::specs::Queue::waiting, crate::specs::Line::line))]
     fn empty() -> Queue {
         Queue {
             rows: [EMPTY_WAIT; CAPACITY],

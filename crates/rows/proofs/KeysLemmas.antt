@@ -82,14 +82,14 @@ pub std_order : {K : Type 0} {order : K → K → Ordering} → Total order → 
 std_order {order = order} t = record { antisymm = λ a b. t.turned b a; trans = t.through; congr = λ a b c e. ap (λ k. order k c) (t.level a b e) }
 
 -- numbers, rising
-pub level_number : (m n : ℕ) → nat_cmp m n ≡ Equal → m ≡ n
-level_number m n e = ranked m n Equal (sym e)
+pub number_level : (m n : ℕ) → nat_cmp m n ≡ Equal → m ≡ n
+number_level m n e = ranked m n Equal (sym e)
 
 pub number_less : (m n : ℕ) → m < n → nat_cmp m n ≡ Less
 number_less m n l = sym (nat_cmp_is m n Less l)
 
 pub total_number : Total nat_cmp
-total_number = total_order nat_cmp_total level_number
+total_number = total_order nat_cmp_total number_level
 
 -- keys of two parts, compared by the first and then by the second
 pub level_two : {K A B : Type 0} (p : K → A) (q : K → B) {first : A → A → Ordering} {second : B → B → Ordering} →

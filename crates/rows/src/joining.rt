@@ -10,10 +10,11 @@ use crate::Row;
 fn head<R: Row>(rows: &[R]) -> Option<R::Key>
     ensures { result ≡ head_key R.key rows.now }
 {
-    Some(rows.first()?.key())
+    rows.first().map(|row| row.key())
 }
 
-// The lower of two keys, where there are keys.
+// The lower of two keys, where there are keys. Three in an array, for `flatten().min()`, would owe that the size of a key fits, which
+// nothing says of a type parameter.
 fn lower<K: Ord + Copy>(a: Option<K>, b: Option<K>) -> Option<K>
     ensures { result ≡ lower_of K.cmp a b }
 {

@@ -45,7 +45,9 @@ pub const EMPTY_ROW: Mark = Mark {
 // The most rows that a set has.
 pub const PLACES: usize = 96;
 
-// A set as it lies in memory: rows and their number, and no promise of them.
+// A set as it lies in memory: rows and their number, and no promise of them. It is plain data in memory that a caller lends, without a
+// heap. One generic struct for these rows and the queue's is not to be had: with an array of a type parameter, each call would owe that
+// its size fits.
 #[derive(Clone, Copy)]
 pub struct SetForm {
     pub rows: [Mark; PLACES],

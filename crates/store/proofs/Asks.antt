@@ -12,14 +12,13 @@ use Rattle.kinds.specs.Events.{Seen, common, nothing}
 use Rattle.calls.specs.declared.calls.Meeting.{Meeting}
 use Rattle.calls.specs.declared.calls.Meeting.TheVariants.{Seen as Met, Apart}
 use Rattle.calls.specs.declared.fault.StoreFault.{StoreFault}
-use Rattle.calls.specs.declared.fault.StoreFault.TheVariants.{NoVersion, NotStored, BranchesFull, NoBranch, NoSource, VersionsFull, NoBase}
-use Rattle.kinds.specs.declared.kind.Kind.{Ghosts}
-use Rattle.store.specs.declared.store.Store.{Store}
+use Rattle.calls.specs.declared.fault.StoreFault.TheVariants.{NoVersion, NoBranch, NoSource, VersionsFull, NoBase}
+use Rattle.store.specs.declared.ledger.Ledger.{Ledger}
 use Rattle.calls.specs.World.{World, seen_by, inside, stored, lowest}
 use Rattle.store.specs.Book.{world}
 use Rattle.calls.specs.Counts.{tally}
-use Rattle.calls.specs.Outcome.{asked, started, spare, forking, asking, merging}
-use Rattle.store.specs.Views.{book, record_at}
+use Rattle.calls.specs.Outcome.{asked, started, spare, asking, merging}
+use Rattle.store.specs.Ledgers.{book, record_at}
 use Rattle.calls.proofs.Inversions.{asked_yes, asked_no, asking_ok, meeting}
 use Rattle.calls.specs.declared.calls.Version.{Version}
 use Rattle.store.proofs.Books.{sound_of, made_of, made_long, branches_of, head_at, head_below, record_long, count_at, head_count}
@@ -38,7 +37,7 @@ pub refused_by : (o : Option ℕ) (f e : StoreFault) → Err e ≡ ok_or o f →
 refused_by None f e q = (refl, cc)
 refused_by (Some x) f e q = (cc, cc)
 
-module _ {A : Type 0} {κ : Ghosts A} (s : Store A κ) where
+module _ (s : Ledger) where
   abbrev w : World
   w = world (book s)
 
@@ -60,23 +59,8 @@ module _ {A : Type 0} {κ : Ghosts A} (s : Store A κ) where
       started w (asked (ltb b (length w.heads)) f next) ≡ next
   started_at next b f l = is_started (asked (ltb b (length w.heads)) f next) (omega (arith, head_below s b l)) ∙ has_branch next b f l
 
-  -- ---- a fork
-  module _ (v : ℕ) where
-    abbrev branch-more : Result ℕ StoreFault
-    branch-more = asked (ltb (length w.heads) 16) BranchesFull (Ok (length w.heads))
-
-    at_version : v < s.made → forking w v ≡ branch-more
-    at_version l =
-        is_started (asked (ltb v (length w.versions)) (NotStored v) branch-more) (omega arith)
-        ∙ asked_yes (ltb v (length w.versions)) (NotStored v) branch-more (lt-ltb v (length w.versions) (omega (arith, made_of s)))
-
-    pub forking_made : v < s.made → s.branches < 16 → Ok s.branches ≡ forking w v
-    forking_made l n =
-        ap Ok (sym (branches_of s))
-        ∙ sym (at_version l ∙ asked_yes (ltb (length w.heads) 16) BranchesFull (Ok (length w.heads)) (lt-ltb (length w.heads) 16 (omega (arith, branches_of s))))
-
 -- ---- a call on a branch that is there
-module _ {A : Type 0} {κ : Ghosts A} (s : Store A κ) (d first : ℕ) (at : Ok first ≡ asking (world (book s)) d) where
+module _ (s : Ledger) (d first : ℕ) (at : Ok first ≡ asking (world (book s)) d) where
   abbrev v : World
   v = world (book s)
 

@@ -7,13 +7,12 @@ use Rattle.kinds.specs.Events.{nothing}
 use Rattle.calls.specs.declared.calls.Action.{Action}
 use Rattle.calls.specs.declared.calls.Step.{Step}
 use Rattle.calls.specs.declared.calls.Version.{Version}
-use Rattle.kinds.specs.declared.kind.Kind.{Ghosts}
-use Rattle.store.specs.declared.store.Store.{Store}
+use Rattle.store.specs.declared.ledger.Ledger.{Ledger}
 use Rattle.calls.specs.World.{World, advance, opened, seen_by}
 use Rattle.calls.specs.Run.{advances, possible, all_possible}
 use Rattle.calls.specs.Counts.{tally, record_of}
 use Rattle.store.specs.Book.{actions, told, world}
-use Rattle.store.specs.Views.{book, record_at}
+use Rattle.store.specs.Ledgers.{book, record_at}
 use Rattle.calls.proofs.Worlds.{Sound, sound_opened, sound_after}
 use Rattle.calls.proofs.Questions.{count_is}
 
@@ -41,7 +40,7 @@ module _ (V : ℕ) (ss : List Step) (n : ℕ) (s : Step) (l : n < length ss) whe
   still_possible all one = ap (all_possible V (opened V)) actions_more ∙ possible_more V (opened V) (actions ss n) s.action all one
 
 -- ---- what is read from a ledger
-module _ {A : Type 0} {κ : Ghosts A} (s : Store A κ) where
+module _ (s : Ledger) where
   pub sound_of : Sound (world (book s))
   sound_of = sound_after s.usable (opened s.usable) (actions s.steps.now s.taken) s.small (sound_opened s.usable) s.possible
 

@@ -61,13 +61,6 @@ module _ {A : Type 0} (R : A → List Event → Type 0) where
   valued_push es es' (t ∷ ss) [] s x e h l r = elim h [ ]
   valued_push es es' (t ∷ ss) (v ∷ vs) s x e h l r = (subst (R v) e.0 h.0, valued_push es es' ss vs s x e.1 h.1 (omega arith) r)
 
-  -- a value past those of the versions is no matter
-  pub valued_beyond : (es : List Event) (ss : List Seen) (vs : List A) (i : ℕ) (x : A) → length ss ≤ i → Valued R es ss vs → Valued R es ss (set vs i x)
-  valued_beyond es [] vs i x l h = tt
-  valued_beyond es (s ∷ ss) [] i x l h = elim h [ ]
-  valued_beyond es (s ∷ ss) (v ∷ vs) zero x l h = absurd (omega arith)
-  valued_beyond es (s ∷ ss) (v ∷ vs) (suc i) x l h = (h.0, valued_beyond es ss vs i x (omega arith) h.1)
-
 -- ---- what the kind's duties give
 -- the outcome of a change that the kind was asked for
 abbrev changed_by : ℕ → Result ℤ KindFault → Outcome

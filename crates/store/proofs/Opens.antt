@@ -7,7 +7,7 @@ use Rattle.kinds.proofs.Picks.{in_none, pick_none}
 use Rattle.calls.specs.declared.calls.Step.{Step}
 use Rattle.calls.specs.declared.calls.Version.{Version}
 use Rattle.calls.specs.World.{World, opened}
-use Rattle.store.specs.Held.{Held, Valued, FirstWritten}
+use Rattle.store.specs.Held.{Held, Valued}
 use Rattle.calls.specs.Counts.{total, record_of, records_of}
 use Rattle.calls.specs.Run.{all_possible}
 use Rattle.store.specs.Book.{Book, actions, told, world, blank, resized}
@@ -49,10 +49,6 @@ root_book k (suc V) some =
     ap (λ (r : Version). record { usable = suc V; versions = set k.versions 0 r; made = 1; steps = k.steps; taken = 0; heads = set k.heads 0 0; branches = 1; events = 0 }) zeros_is
 
 -- ---- the values
-pub first_written : {A : Type 0} (V : ℕ) (xs : List A) (x : A) → 0 < V → FirstWritten V xs (set xs 0 x)
-first_written zero xs x some = absurd (omega arith)
-first_written (suc V) xs x some = (x, refl)
-
 module _ {A : Type 0} (m : Meaning) (R : A → List Event → Type 0) where
   held_at : (b : Book) (xs : List A) → Known m (opened b.usable).events × Valued R (opened b.usable).events (opened b.usable).versions xs → b.taken ≡ 0 →
       Held m R (record { book = b; values = xs })
@@ -72,9 +68,14 @@ module _ {A : Type 0} (m : Meaning) (R : A → List Event → Type 0) where
   root_valued (suc V) [] x some l stands = absurd (omega arith)
   root_valued (suc V) (y ∷ ys) x some l stands = (subst (R x) (sym (pick_none nothing)) stands, tt)
 
-  -- the opened memory, with a value that stands for the empty history
-  pub root_held : (V : ℕ) (vs : List Version) (ss : List Step) (hs : List ℕ) (xs : List A) (x : A) → 0 < V → 0 < length xs → R x [] →
-      Held m R (record { book = record { usable = V; versions = vs; made = 1; steps = ss; taken = 0; heads = hs; branches = 1; events = 0 }; values = set xs 0 x })
-  root_held V vs ss hs xs x some l stands =
-      held_at (record { usable = V; versions = vs; made = 1; steps = ss; taken = 0; heads = hs; branches = 1; events = 0 }) (set xs 0 x)
-      (opened_known V, root_valued V xs x some l stands) refl
+  -- an opened memory, with a value that stands for the empty history
+  pub root_held : (b b' : Book) (V : ℕ) (xs : List A) (x : A) → b' ≡ blank (resized b V) → 0 < V → 0 < length xs → R x [] →
+      Held m R (record { book = b'; values = set xs 0 x })
+  root_held b b' V xs x e some l stands =
+      subst (λ (z : Book). Held m R (record { book = z; values = set xs 0 x })) (sym e)
+      (held_at (blank (resized b V)) (set xs 0 x) (opened_known V, root_valued V xs x some l stands) refl)
+
+  -- memory with no room at all
+  pub none_held : (b : Book) (xs : List A) → b.usable ≡ 0 → b.taken ≡ 0 → Held m R (record { book = b; values = xs })
+  none_held b xs none untaken =
+      held_at b xs (subst (λ (V : ℕ). Known m (opened V).events × Valued R (opened V).events (opened V).versions xs) (sym none) (opened_known 0, tt)) untaken

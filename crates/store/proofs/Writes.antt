@@ -9,15 +9,12 @@ use Rattle.kinds.specs.declared.calls.Change as kind
 use Rattle.calls.specs.declared.calls.Action.{Action}
 use Rattle.calls.specs.declared.calls.Action.TheVariants.{Fork, Change, Merge}
 use Rattle.calls.specs.declared.calls.Version.{Version}
-use Rattle.kinds.specs.declared.kind.Kind.{Ghosts}
-use Rattle.store.specs.declared.store.Store.{Store}
+use Rattle.store.specs.declared.ledger.Ledger.{Ledger}
 use Rattle.calls.specs.World.{World, advance, opened, seen_by, with_event, next_event}
 use Rattle.calls.specs.Counts.{tally, record_of, records_of}
 use Rattle.calls.specs.Run.{possible, all_possible}
-use Rattle.store.specs.Book.{actions, told, world, Appends}
-use Rattle.store.specs.Attempt.{after_action}
-use Rattle.store.specs.Held.{Memory}
-use Rattle.store.specs.Views.{book, memory, record_at}
+use Rattle.store.specs.Book.{Book, actions, told, world, appended, Appends}
+use Rattle.store.specs.Ledgers.{book, record_at}
 use Rattle.calls.proofs.Prefixes.{one_more}
 use Rattle.calls.proofs.Worlds.{Sound, sound_advance}
 use Rattle.calls.proofs.Questions.{count_is, tally_joined, tally_change, tally_small, records_kept}
@@ -54,7 +51,7 @@ record_by w h s counts sixteen each =
     ap (λ (l : List ℕ). record { counts = l })
     (ext_get_or 0 counts (record_of w.events s).counts sixteen (λ x l. each x (omega (arith, sixteen)) ∙ sym (count_is w h s x)))
 
-module _ {A : Type 0} {κ : Ghosts A} (s : Store A κ) where
+module _ (s : Ledger) where
   abbrev w : World
   w = world (book s)
 
@@ -133,13 +130,13 @@ module _ {A : Type 0} {κ : Ghosts A} (s : Store A κ) where
             (λ x l. each x ∙ sym (tally_change w (sound_of s) b c x))
 
 -- ---- a version more
-pub step_space : {A : Type 0} {κ : Ghosts A} (s : Store A κ) (b : ℕ) → b < s.branches → s.made < s.usable → s.taken < length s.steps.now
+pub step_space : (s : Ledger) (b : ℕ) → b < s.branches → s.made < s.usable → s.taken < length s.steps.now
 step_space s b bl room = let e = s.stepped (omega arith) in let k = s.counted (omega (arith, head_below s b bl)) in omega (arith, s.few)
 
-pub few_steps : {A : Type 0} {κ : Ghosts A} (s : Store A κ) (b : ℕ) → b < s.branches → s.made < s.usable → s.taken < 4111
+pub few_steps : (s : Ledger) (b : ℕ) → b < s.branches → s.made < s.usable → s.taken < 4111
 few_steps s b bl room = let k = s.counted (omega (arith, head_below s b bl)) in omega (arith, s.few, s.small)
 
-module _ {A : Type 0} {κ : Ghosts A} (s : Store A κ) (a : Action) (b : ℕ) (r : Version) (n : ℕ) (bl : b < s.branches) (room : s.made < s.usable)
+module _ (s : Ledger) (a : Action) (b : ℕ) (r : Version) (n : ℕ) (bl : b < s.branches) (room : s.made < s.usable)
     (h : Appends s.usable (world (book s)) a b r n) where
   moved : told s.usable (set s.steps.now s.taken (record { action = a })) (s.taken + 1) ≡ advance (world (book s)) a
   moved = told_more s.usable s.steps.now s.taken (record { action = a }) (step_space s b bl room)
@@ -174,42 +171,36 @@ module _ {A : Type 0} {κ : Ghosts A} (s : Store A κ) (a : Action) (b : ℕ) (r
   pub append_counted : s.taken + 1 + 2 ≤ s.made + 1 + s.branches
   append_counted = let k = s.counted (omega (arith, head_below s b bl)) in omega arith
 
-pub append_memory : {A : Type 0} {κ : Ghosts A} (s : Store A κ) (a : Action) (b : ℕ) (r : Version) (n : ℕ) (x : A) → Appends s.usable (world (book s)) a b r n →
-    ◌≡◌ {A = Memory A} (record {
-      book = record {
-        usable = s.usable;
-        versions = set s.versions.now s.made r;
-        made = s.made + 1;
-        steps = set s.steps.now s.taken (record { action = a });
-        taken = s.taken + 1;
-        heads = set s.heads b s.made;
-        branches = s.branches;
-        events = n;
-      };
-      values = set s.values.now s.made x;
-    }) (after_action (memory s) a b x)
-append_memory {A} s a b r n x h =
-    ap₂ {C = Memory A} (λ (r : Version) (n : ℕ). record {
-      book = record {
-        usable = s.usable;
-        versions = set s.versions.now s.made r;
-        made = s.made + 1;
-        steps = set s.steps.now s.taken (record { action = a });
-        taken = s.taken + 1;
-        heads = set s.heads b s.made;
-        branches = s.branches;
-        events = n;
-      };
-      values = set s.values.now s.made x;
+pub append_book : (s : Ledger) (a : Action) (b : ℕ) (r : Version) (n : ℕ) → Appends s.usable (world (book s)) a b r n →
+    ◌≡◌ {A = Book} (record {
+      usable = s.usable;
+      versions = set s.versions.now s.made r;
+      made = s.made + 1;
+      steps = set s.steps.now s.taken (record { action = a });
+      taken = s.taken + 1;
+      heads = set s.heads b s.made;
+      branches = s.branches;
+      events = n;
+    }) (appended (book s) a b)
+append_book s a b r n h =
+    ap₂ {C = Book} (λ (r : Version) (n : ℕ). record {
+      usable = s.usable;
+      versions = set s.versions.now s.made r;
+      made = s.made + 1;
+      steps = set s.steps.now s.taken (record { action = a });
+      taken = s.taken + 1;
+      heads = set s.heads b s.made;
+      branches = s.branches;
+      events = n;
     }) h.version h.events
 
 -- ---- the steps afterwards
-pub appended_steps : {A : Type 0} {κ : Ghosts A} (s : Store A κ) (a : Action) (b : ℕ) → b < s.branches → s.made < s.usable →
+pub appended_steps : (s : Ledger) (a : Action) (b : ℕ) → b < s.branches → s.made < s.usable →
     actions (set s.steps.now s.taken (record { action = a })) (s.taken + 1) ≡ actions s.steps.now s.taken ++ (a ∷ [])
 appended_steps s a b bl room = actions_more s.usable s.steps.now s.taken (record { action = a }) (step_space s b bl room)
 
 -- ---- a branch more
-module _ {A : Type 0} {κ : Ghosts A} (s : Store A κ) (v : ℕ) (vl : v < s.made) (bl : s.branches < 16) where
+module _ (s : Ledger) (v : ℕ) (vl : v < s.made) (bl : s.branches < 16) where
   branch_space : s.taken < length s.steps.now
   branch_space = let e = s.stepped (omega (arith, s.within)) in let k = s.counted (omega arith) in omega (arith, s.within)
 

@@ -1,4 +1,5 @@
 pub mod Book
 pub mod Held
 pub mod Attempt
+pub mod Ledgers
 pub mod Views

@@ -2,6 +2,7 @@
 #![tactic(auto)]
 
 mod counts;
+mod ledger;
 mod store;
 
 pub use store::Store;

@@ -4,6 +4,7 @@ ghost use Rattle.store.specs.Held.{Greatest, Held, Opened, Room, lent, resized_m
 ghost use Rattle.store.specs.Views.{memory};
 
 use super::Store;
+use crate::ledger::Ledger;
 use calls::{Step, Version};
 use kinds::Kind;
 
@@ -14,25 +15,16 @@ impl<'a, K: Kind> Store<'a, K> {
         values: &'a mut [K],
         steps: &'a mut [Step],
     ) -> Store<'a, K>
-        ensures size { Greatest (length versions.old) (length values.old) (length steps.old) result.usable }
-        ensures written { Opened (lent result.usable versions.old values.old steps.old) (memory result) }
+        ensures size { Greatest (length versions.old) (length values.old) (length steps.old) result.ledger.usable }
+        ensures written { Opened (lent result.ledger.usable versions.old values.old steps.old) (memory result) }
         ensures held { Held K.meaning K.represents (memory result) }
     {
         let usable = 4096
             .min(versions.len())
             .min(values.len())
             .min(steps.len().saturating_sub(14));
-        let mut store = Store {
-            versions,
-            values,
-            steps,
-            usable: 0,
-            made: 0,
-            taken: 0,
-            branches: 0,
-            events: 0,
-            heads: [0; 16],
-        };
+        let ledger = Ledger::new(versions, steps);
+        let mut store = Store { ledger, values };
         store.reset(usable);
         store
     }
@@ -48,22 +40,15 @@ impl<'a, K: Kind> Store<'a, K> {
 
     // The opened state, with this usable size.
     fn reset(&mut self, usable: usize)
-        requires { 0 < usable → Room (length self.old.versions.now) (length self.old.values.now) (length self.old.steps.now) usable }
+        requires { 0 < usable → Room (length self.old.ledger.versions.now) (length self.old.values.now) (length self.old.ledger.steps.now) usable }
         ensures written { Opened (resized_memory (memory self.old) usable) (memory self.new) }
         ensures held { Held K.meaning K.represents (memory self.new) }
     {
-        self.usable = 0;
-        self.made = 0;
-        self.taken = 0;
-        self.branches = 0;
-        self.events = 0;
-        if usable > 0 {
-            self.versions[0] = Version::BLANK;
-            self.values[0] = K::empty();
-            self.heads[0] = 0;
-            self.usable = usable;
-            self.made = 1;
-            self.branches = 1;
+        if usable == 0 {
+            self.ledger.reset(0);
+            return;
         }
+        self.values[0] = K::empty();
+        self.ledger.reset(usable);
     }
 }

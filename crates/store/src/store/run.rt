@@ -1,10 +1,9 @@
 // Calls, one by one and in a row.
 ghost use Rattle.std.specs.Prelude.{◌≡◌, ℕ, min, length, take, drop};
 ghost use Rattle.calls.specs.declared.calls.Call.TheVariants.{Act};
-ghost use Rattle.store.specs.Attempt.{Attempted, Ran};
+ghost use Rattle.store.specs.Attempt.{Attempted, Ran, past};
 ghost use Rattle.calls.specs.Run.{Lawful, log_of};
-ghost use Rattle.store.specs.Book.{world};
-ghost use Rattle.store.specs.Views.{book, memory};
+ghost use Rattle.store.specs.Views.{memory};
 ghost use Rattle.calls.specs.Outcome.{outcome};
 
 use super::Store;
@@ -14,7 +13,7 @@ use kinds::Kind;
 impl<'a, K: Kind> Store<'a, K> {
     pub fn act(&mut self, action: Action) -> Result<Reply, StoreFault>
         ensures attempted { Attempted K.meaning K.represents (memory self.old) (Act action) result (memory self.new) }
-        ensures defined { result ≡ outcome K.meaning self.old.usable (world (book self.old)) (Act action) }
+        ensures defined { result ≡ outcome K.meaning self.old.ledger.usable (past (memory self.old)) (Act action) }
     {
         match action {
             Action::Fork(version) => Ok(Reply::Branch(self.fork(version)?)),
@@ -28,7 +27,7 @@ impl<'a, K: Kind> Store<'a, K> {
 
     pub fn attempt(&mut self, call: Call) -> Result<Reply, StoreFault>
         ensures attempted { Attempted K.meaning K.represents (memory self.old) call result (memory self.new) }
-        ensures defined { result ≡ outcome K.meaning self.old.usable (world (book self.old)) call }
+        ensures defined { result ≡ outcome K.meaning self.old.ledger.usable (past (memory self.old)) call }
     {
         match call {
             Call::Act(action) => self.act(action),
@@ -40,13 +39,13 @@ impl<'a, K: Kind> Store<'a, K> {
     // carries the law of a run.
     pub fn run(&mut self, calls: &[Call], outcomes: &mut [Result<Reply, StoreFault>]) -> usize
         ensures number { result ≡ min (length calls.now) (length outcomes.old) }
-        ensures lawful { Lawful K.meaning self.old.usable (log_of (take result calls.now) (take result outcomes.new)) }
+        ensures lawful { Lawful K.meaning self.old.ledger.usable (log_of (take result calls.now) (take result outcomes.new)) }
         ensures ran { Ran K.meaning K.represents (memory self.old) (log_of (take result calls.now) (take result outcomes.new)) (memory self.new) }
         ensures rest { drop result outcomes.new ≡ drop result outcomes.old }
     {
         self.reopen();
         let number = calls.len().min(outcomes.len());
-        // By index: of what is written through `iter_mut` a proof knows no element.
+        // `outcomes` by index: under a `zip` with `iter_mut`, tried, no invariant can name what was written.
         for (i, call) in calls[..number].iter().enumerate() {
             outcomes[i] = self.attempt(*call);
         }

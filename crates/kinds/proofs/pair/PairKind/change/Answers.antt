@@ -1,4 +1,4 @@
-use Rattle.std.proofs.Common.{◌≡◌, ◌^◌, ◌<◌, sym, ap, subst, rules}
+use Rattle.std.proofs.Common.{◌≡◌, ◌^◌, ◌<◌, refl, sym, ap, subst, rules}
 use Rattle.kinds.specs.Duties.{Changes}
 use Rattle.kinds.specs.Pair.{pair, part}
 use Rattle.kinds.specs.declared.pair.Side.TheVariants.{Left, Right}
@@ -10,7 +10,7 @@ pub returns : goal.returns
 returns g c =
     let b : c.args.change.place < 2 ^ 32 = search rules in
     let out : c.map_err.result ≡ outer_result c.of-side.result c.match-side.map_err =
-    mapped c.of-side.result c.match-side.map_err c.map_err.result _ c.map_err.ensures.cases (λ e f p. search rules) in
+    mapped c.of-side.result c.match-side.map_err c.map_err.ensures.cases (λ e f p. search rules) refl in
     elim c.match-side.branch [
       | in-Left w ↦ subst (Changes (pair g.L.Kind.meaning g.R.Kind.meaning) _ c.args.self.now c.args.stamp c.args.change c.map_err.result) (sym w.self-is)
           (pair_changes g.L.Kind.meaning g.R.Kind.meaning Left g.L.Kind.represents g.R.Kind.represents

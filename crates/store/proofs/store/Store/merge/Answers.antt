@@ -1,8 +1,8 @@
-use Rattle.std.proofs.Common.{◌<◌, Ok, sym, refl, ap, ◌∙◌, arith, rules}
+use Rattle.std.proofs.Common.{◌<◌, Ok, sym, ap, ◌∙◌, arith, rules}
 use Rattle.calls.specs.declared.calls.Action.TheVariants.{Merge}
-use Rattle.store.specs.Attempt.{after_action}
-use Rattle.store.specs.Views.{memory}
-use Rattle.store.proofs.Stores.{defined, still_held, merge_refused, merging_head_below, merge_idle, merging_base_below, merging_first_below, merging_second_below, merging_possible, merge_unkind, merge_made}
+use Rattle.store.specs.Ledgers.{book}
+use Rattle.store.proofs.Stores.{defined, still_held, still_valued, merge_refused, merging_head_below, merge_idle, merging_base_below, merging_first_below, merging_second_below, merging_possible, merge_unkind, merge_made}
+use Rattle.store.proofs.Writes.{merge_room}
 use Rattle.store.proofs.store.Store.merge.Goals as goal
 
 pub returns-in_err-head : goal.returns-in_err-head
@@ -15,8 +15,8 @@ overflow_cast-result g c =
     let s = c.args.self.now in
     let below : c.in-Seen.head < 4096 = omega (
       arith,
-      s.small,
-      s.within,
+      s.ledger.small,
+      s.ledger.within,
       merging_head_below c.args.self.now c.args.into c.args.from
           c.in-Seen.head (ap Ok (sym c.in-Seen.is) ∙ c.in_ok-head.ensures),
     ) in
@@ -51,26 +51,38 @@ returns-in_err-value-in-Apart g c =
     c.in_err-value-in-Apart.field-0.0 c.from_residual-in_err-value-in-Apart.result c.from_residual-in_err-value-in-Apart.ensures.1 c.in_err-value-in-Apart.ensures in
     record { attempted = t; defined = defined c.args.self.now t }
 
-pub add_merge-version-requires-clause-possible : goal.add_merge-version-requires-clause-possible
-add_merge-version-requires-clause-possible g c =
+pub bounds-self-self : goal.bounds-self-self
+bounds-self-self g c =
+    let s = c.args.self.now in
+    let possible =
+    merging_possible s c.args.into c.args.from c.in-Apart.base c.in-Apart.first c.in-Apart.second (ap Ok (sym c.in-Apart.is) ∙ c.in_ok-head.ensures) in
+    omega (arith, s.valued, merge_room s.ledger c.args.into c.args.from possible)
+
+pub add_merge-version-requires : goal.add_merge-version-requires
+add_merge-version-requires g c =
     merging_possible c.args.self.now c.args.into c.args.from
     c.in-Apart.base c.in-Apart.first c.in-Apart.second (ap Ok (sym c.in-Apart.is) ∙ c.in_ok-head.ensures)
 
-pub add_merge-version-requires-clause-held : goal.add_merge-version-requires-clause-held
-add_merge-version-requires-clause-held g c =
+pub invariant_of-self : goal.invariant_of-self
+invariant_of-self g c =
     let s = c.args.self.now in
-    still_held s (merge_made s c.args.into c.args.from
-    c.in-Apart.base c.in-Apart.first c.in-Apart.second (ap Ok (sym c.in-Apart.is) ∙ c.in_ok-head.ensures)
-    c.value.result.now c.value-in-Apart.result.now c.value-in-Apart-2.result.now c.value.ensures c.value-in-Apart.ensures c.value-in-Apart-2.ensures
-    s.made c.in_ok-value-in-Apart.value (after_action (memory s) (Merge c.args.into c.args.from) c.args.into c.in_ok-value-in-Apart.value)
-    refl c.in_ok-value-in-Apart.ensures refl)
+    let b' = book c.add_merge-version.new.self in
+    record {
+      valued = still_valued s (Merge c.args.into c.args.from) c.args.into c.in_ok-value-in-Apart.value b' c.add_merge-version.ensures.written;
+      held = still_held s (merge_made s c.args.into c.args.from
+          c.in-Apart.base c.in-Apart.first c.in-Apart.second (ap Ok (sym c.in-Apart.is) ∙ c.in_ok-head.ensures)
+          c.value.result.now c.value-in-Apart.result.now c.value-in-Apart-2.result.now c.value.ensures c.value-in-Apart.ensures c.value-in-Apart-2.ensures
+          c.add_merge-version.result c.in_ok-value-in-Apart.value b' c.add_merge-version.ensures.number
+          c.in_ok-value-in-Apart.ensures c.add_merge-version.ensures.written);
+    }
 
 pub returns-in_ok-value-in-Apart : goal.returns-in_ok-value-in-Apart
 returns-in_ok-value-in-Apart g c =
+    let s = c.args.self.now in
     let t =
-    merge_made c.args.self.now c.args.into c.args.from
+    merge_made s c.args.into c.args.from
     c.in-Apart.base c.in-Apart.first c.in-Apart.second (ap Ok (sym c.in-Apart.is) ∙ c.in_ok-head.ensures)
     c.value.result.now c.value-in-Apart.result.now c.value-in-Apart-2.result.now c.value.ensures c.value-in-Apart.ensures c.value-in-Apart-2.ensures
-    c.add_merge-version.result c.in_ok-value-in-Apart.value (memory c.add_merge-version.new.self) c.add_merge-version.ensures.number
+    c.add_merge-version.result c.in_ok-value-in-Apart.value (book c.add_merge-version.new.self) c.add_merge-version.ensures.number
     c.in_ok-value-in-Apart.ensures c.add_merge-version.ensures.written in
-    record { attempted = t; defined = defined c.args.self.now t }
+    record { attempted = t; defined = defined s t }

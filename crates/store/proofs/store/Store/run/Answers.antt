@@ -31,11 +31,11 @@ returns g c =
     let e : c.loop-i.i ≡ n = omega (arith, c.loop-i-test.false, c.loop-i.auto.i-end, c.min-number.ensures, length-take-le n c.args.calls.now) in
     let r : Running k.meaning k.represents (memory c.reopen.new.self) run (memory t) =
     subst (λ (i : ℕ). Running k.meaning k.represents (memory c.reopen.new.self) (log_of (take i c.args.calls.now) (take i c.loop-i.outcomes)) (memory t)) e c.loop-i.invariant.0 in
-    let same : c.reopen.new.self.usable ≡ s.usable = ap (λ (b : Book). b.usable) c.reopen.ensures.written.book in
+    let same : c.reopen.new.self.ledger.usable ≡ s.ledger.usable = ap (λ (b : Book). b.usable) c.reopen.ensures.written.book in
     record {
       number = c.min-number.ensures;
-      lawful = lawful k.meaning s.usable s.small run (subst (λ (V : ℕ). Defined k.meaning V (opened V) run) same r.defined);
+      lawful = lawful k.meaning s.ledger.usable s.ledger.small run (subst (λ (V : ℕ). Defined k.meaning V (opened V) run) same r.defined);
       ran = ran k.meaning k.represents (memory s) (memory c.reopen.new.self) (memory t) run c.reopen.ensures.written r
-          (record { possible = t.possible; versions = t.recorded; heads = t.standing; events = t.numbered });
+          (record { possible = t.ledger.possible; versions = t.ledger.recorded; heads = t.ledger.standing; events = t.ledger.numbered });
       rest = subst (λ (i : ℕ). drop i c.loop-i.outcomes ≡ drop i c.args.outcomes.now) e c.loop-i.invariant.1;
     }

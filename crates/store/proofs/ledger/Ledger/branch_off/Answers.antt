@@ -1,13 +1,9 @@
-use Rattle.std.proofs.Common.{Ok, refl, arith, length-set}
-use Rattle.store.specs.Attempt.{after_fork}
-use Rattle.store.specs.Views.{memory}
-use Rattle.store.proofs.Asks.{forking_made}
-use Rattle.store.proofs.Stores.{fork_attempted, still_held}
+use Rattle.std.proofs.Common.{arith, length-set}
 use Rattle.store.proofs.Writes.{fork_possible, fork_recorded, fork_standing, fork_numbered, fork_counted}
-use Rattle.store.proofs.store.Store.branch_off.Goals as goal
+use Rattle.store.proofs.ledger.Ledger.branch_off.Goals as goal
 
 pub invariant_of-self : goal.invariant_of-self
-invariant_of-self g c =
+invariant_of-self c =
     let s = c.args.self.now in
     let v = c.args.version in
     let vl = c.if-version-self.false in
@@ -16,7 +12,6 @@ invariant_of-self g c =
       small = s.small;
       sixteen = simp length-set s.sixteen;
       versioned = s.versioned;
-      valued = s.valued;
       stepped = λ u. simp length-set (s.stepped u);
       within = s.within;
       few = omega (arith, c.if-self-ge16.false);
@@ -26,5 +21,4 @@ invariant_of-self g c =
       recorded = fork_recorded s v vl bl;
       standing = fork_standing s v vl bl;
       numbered = fork_numbered s v vl bl;
-      held = still_held s (fork_attempted s v (Ok s.branches) (after_fork (memory s) v) (forking_made s v vl bl) refl);
     }

@@ -1,19 +1,19 @@
-// The questions that a store asks before a kind is asked.
+// The questions that are asked before a kind is asked.
 ghost use Rattle.std.specs.Prelude.{◌≡◌, ◌<◌, ◌≤◌, MatchOption, nat_eq, position, slice_index, take};
 ghost use Rattle.std.specs.Cmp.Lexicographic.{pointwise};
-ghost use Rattle.store.specs.Attempt.{Reads, next_stamp};
+ghost use Rattle.store.specs.Attempt.{next_stamp};
 ghost use Rattle.store.specs.Book.{world};
 ghost use Rattle.calls.specs.Outcome.{asking, changing, merging};
-ghost use Rattle.store.specs.Views.{book, memory};
+ghost use Rattle.store.specs.Ledgers.{book};
 
-use super::Store;
+use super::Ledger;
 use crate::counts;
 use calls::{Meeting, StoreFault, Version};
-use kinds::{Kind, Stamp};
+use kinds::Stamp;
 
-impl<'a, K: Kind> Store<'a, K> {
+impl<'a> Ledger<'a> {
     // The head of a branch.
-    pub(super) fn head(&self, branch: u8) -> Result<usize, StoreFault>
+    pub(crate) fn head(&self, branch: u8) -> Result<usize, StoreFault>
         ensures { result ≡ asking (world (book self.now)) branch }
     {
         if self.made == 0 {
@@ -23,6 +23,7 @@ impl<'a, K: Kind> Store<'a, K> {
             .ok_or(StoreFault::NoBranch(branch))
     }
 
+    // The same, if there is such a branch.
     fn head_if_there(&self, branch: u8) -> Option<usize>
         ensures { MatchOption result (self.now.branches ≤ branch) (λ head. (branch < self.now.branches) × (head ≡ slice_index self.now.heads branch)) }
     {
@@ -32,7 +33,7 @@ impl<'a, K: Kind> Store<'a, K> {
     }
 
     // The head of a branch to which a version can be added.
-    pub(super) fn head_to_move(&self, branch: u8) -> Result<usize, StoreFault>
+    pub(crate) fn head_to_move(&self, branch: u8) -> Result<usize, StoreFault>
         ensures { result ≡ changing self.now.usable (world (book self.now)) branch }
     {
         let head = self.head(branch)?;
@@ -43,7 +44,7 @@ impl<'a, K: Kind> Store<'a, K> {
     }
 
     // How two branches meet in a merge.
-    pub(super) fn meet(&self, into: u8, from: u8) -> Result<Meeting, StoreFault>
+    pub(crate) fn meet(&self, into: u8, from: u8) -> Result<Meeting, StoreFault>
         ensures { result ≡ merging self.now.usable (world (book self.now)) into from }
     {
         let first = self.head(into)?;
@@ -75,21 +76,12 @@ impl<'a, K: Kind> Store<'a, K> {
     }
 
     // The stamp of the next change on a branch.
-    pub(super) fn stamp(&self, branch: u8) -> Stamp
+    pub(crate) fn stamp(&self, branch: u8) -> Stamp
         ensures { result ≡ next_stamp (world (book self.now)) branch }
     {
         Stamp {
             event: (self.events + 1) as u16,
             branch,
         }
-    }
-
-    // The value of a stored version.
-    pub(super) fn value(&self, version: usize) -> &K
-        requires { version < self.now.made }
-        ensures { Reads (memory self.now) version result.now }
-    {
-        let values = &*self.values;
-        &values[version]
     }
 }

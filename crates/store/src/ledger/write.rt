@@ -1,23 +1,22 @@
 // What an accepted call writes.
 ghost use Rattle.std.specs.Prelude.{◌≡◌, ◌<◌, true};
 ghost use Rattle.calls.specs.declared.calls.Action.TheVariants.{Change as ChangeOf, Merge};
-ghost use Rattle.store.specs.Book.{Appends, world};
+ghost use Rattle.store.specs.Book.{Appends, appended, forked, world};
 ghost use Rattle.calls.specs.Outcome.{forking};
 ghost use Rattle.calls.specs.Run.{possible};
-ghost use Rattle.store.specs.Attempt.{Settled, after_action, after_fork};
-ghost use Rattle.store.specs.Held.{Held};
-ghost use Rattle.store.specs.Views.{book, memory};
+ghost use Rattle.store.specs.Attempt.{Settled};
+ghost use Rattle.store.specs.Ledgers.{book};
 
-use super::Store;
+use super::Ledger;
 use crate::counts;
 use calls::{Action, Step, StoreFault, Version};
-use kinds::{Change, Kind};
+use kinds::Change;
 
-impl<'a, K: Kind> Store<'a, K> {
+impl<'a> Ledger<'a> {
     // A branch more, at a version.
-    pub(super) fn branch_off(&mut self, version: u32) -> Result<u8, StoreFault>
+    pub(crate) fn branch_off(&mut self, version: u32) -> Result<u8, StoreFault>
         ensures result { result ≡ forking (world (book self.old)) version }
-        ensures written { Settled result (memory self.new ≡ after_fork (memory self.old) version) (memory self.new ≡ memory self.old) }
+        ensures written { Settled result (book self.new ≡ forked (book self.old) version) (book self.new ≡ book self.old) }
     {
         if self.made == 0 {
             return Err(StoreFault::NoVersion);
@@ -38,52 +37,41 @@ impl<'a, K: Kind> Store<'a, K> {
     }
 
     // A version more on a branch, which has seen a change more.
-    pub(super) fn add_change(&mut self, branch: u8, change: Change, value: K) -> usize
-        requires possible { possible self.old.usable (world (book self.old)) (ChangeOf branch change) ≡ true }
-        requires held { ∥ Held K.meaning K.represents (after_action (memory self.old) (ChangeOf branch change) branch value) ∥₁ }
+    pub(crate) fn add_change(&mut self, branch: u8, change: Change) -> usize
+        requires { possible self.old.usable (world (book self.old)) (ChangeOf branch change) ≡ true }
         ensures number { result ≡ self.old.made }
-        ensures written { memory self.new ≡ after_action (memory self.old) (ChangeOf branch change) branch value }
+        ensures written { book self.new ≡ appended (book self.old) (ChangeOf branch change) branch }
     {
         let action = Action::Change(branch, change);
         let mut version = self.versions[self.heads[branch as usize] as usize];
         version.counts[branch as usize] += 1;
         let events = self.events + 1;
-        self.append(action, branch, version, value, events)
+        self.append(action, branch, version, events)
     }
 
     // A version more on a branch, which has seen all that another has seen.
-    pub(super) fn add_merge(&mut self, into: u8, from: u8, value: K) -> usize
-        requires possible { possible self.old.usable (world (book self.old)) (Merge into from) ≡ true }
-        requires held { ∥ Held K.meaning K.represents (after_action (memory self.old) (Merge into from) into value) ∥₁ }
+    pub(crate) fn add_merge(&mut self, into: u8, from: u8) -> usize
+        requires { possible self.old.usable (world (book self.old)) (Merge into from) ≡ true }
         ensures number { result ≡ self.old.made }
-        ensures written { memory self.new ≡ after_action (memory self.old) (Merge into from) into value }
+        ensures written { book self.new ≡ appended (book self.old) (Merge into from) into }
     {
         let action = Action::Merge(into, from);
         let ours = self.versions[self.heads[into as usize] as usize];
         let theirs = self.versions[self.heads[from as usize] as usize];
         let version = counts::branchwise(&ours, &theirs, u16::max);
         let events = self.events;
-        self.append(action, into, version, value, events)
+        self.append(action, into, version, events)
     }
 
-    // The step, the version with its value, and the head that moves to it.
-    fn append(
-        &mut self,
-        action: Action,
-        branch: u8,
-        version: Version,
-        value: K,
-        events: usize,
-    ) -> usize
+    // The step, the version, and the head that moves to it.
+    fn append(&mut self, action: Action, branch: u8, version: Version, events: usize) -> usize
         requires there { branch < self.old.branches }
         requires room { self.old.made < self.old.usable }
         requires appends { Appends self.old.usable (world (book self.old)) action branch version events }
-        requires held { ∥ Held K.meaning K.represents (after_action (memory self.old) action branch value) ∥₁ }
         ensures number { result ≡ self.old.made }
-        ensures written { memory self.new ≡ after_action (memory self.old) action branch value }
+        ensures written { book self.new ≡ appended (book self.old) action branch }
     {
         let made = self.made;
-        self.values[made] = value;
         self.versions[made] = version;
         self.steps[self.taken] = Step { action };
         self.heads[branch as usize] = made as u16;
