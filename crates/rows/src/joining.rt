@@ -13,8 +13,8 @@ fn head<R: Row>(rows: &[R]) -> Option<R::Key>
     rows.first().map(|row| row.key())
 }
 
-// The lower of two keys, where there are keys. Three in an array, for `flatten().min()`, would owe that the size of a key fits, which
-// nothing says of a type parameter.
+// The lower of two keys, where there are keys. Three in an array, for `flatten().min()`, was tried: it owes that the size of a key fits,
+// which nothing says of a type parameter. `zip`, `map` and `or` would be no plainer than the match.
 fn lower<K: Ord + Copy>(a: Option<K>, b: Option<K>) -> Option<K>
     ensures { result ≡ lower_of K.cmp a b }
 {
@@ -70,7 +70,7 @@ fn added<R: Row>(out: &mut [R], count: usize, row: Option<R>) -> Option<usize>
     if count >= out.len() {
         return None;
     }
-    // By index: over `get_mut` the proof doesn't close, since nothing says what a slice holds after it.
+    // By index: over `get_mut`, tried, the proof doesn't close, since nothing says what a slice holds after it.
     out[count] = row;
     Some(count + 1)
 }
@@ -84,6 +84,7 @@ pub fn join<R: Row>(
 ) -> Option<usize>
     ensures { Joins R.Key.cmp R.key R.eq base.now first.now second.now out.old out.new result }
 {
+    // the result: with no heap there is no list to push onto, whose length it would be
     let mut count = 0;
     while let Some(low) = lowest(base, first, second) {
         let was = taken(&mut base, low);

@@ -9,6 +9,7 @@ use kinds::KindFault;
 use rows::{join, rising};
 use std::marker::Model;
 
+// An array and a count, since there is no heap; contracts see the rows.
 #[derive(Drop)]
 pub struct SetValue {
     rows: [Mark; PLACES],

@@ -10,6 +10,8 @@ pub(crate) fn branchwise<F: Fn(u16, u16) -> u16>(a: &Version, b: &Version, f: F)
     ensures counts { (k : ℕ) → k < 16 → F.post f (slice_index a.now.counts k) (slice_index b.now.counts k) (slice_index result.counts k) }
 {
     let mut counts = a.counts;
+    // `b` by index: under a `zip` with `iter_mut`, tried, no invariant can name what was written, nor can a proof name what the closure of
+    // `array::from_fn` captures.
     for (i, count) in counts.iter_mut().enumerate() {
         *count = f(*count, b.counts[i]);
     }

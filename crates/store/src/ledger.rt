@@ -1,4 +1,5 @@
-// What a store keeps besides its values: version records, steps and heads. No kind occurs here.
+// What a store keeps besides its values: version records, steps and heads, in slices that the caller lends and, since there is no heap, with
+// numbers of how much of each is in use. No kind occurs here.
 ghost use Rattle.std.specs.Prelude.{◌≡◌, ◌+◌, ◌<◌, ◌≤◌, true, length, take};
 ghost use Rattle.store.specs.Book.{actions, told};
 ghost use Rattle.calls.specs.Run.{all_possible};

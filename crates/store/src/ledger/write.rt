@@ -1,4 +1,5 @@
-// What an accepted call writes.
+// What an accepted call writes. Numbers become indices and back by `as`: the check proves that nothing is lost, `try_from` would bring a fault
+// that can't be, and `self.versions[usize::from(self.heads[usize::from(branch)])]`, tried, is no plainer.
 ghost use Rattle.std.specs.Prelude.{◌≡◌, ◌<◌, true};
 ghost use Rattle.calls.specs.declared.calls.Action.TheVariants.{Change as ChangeOf, Merge};
 ghost use Rattle.store.specs.Book.{Appends, appended, forked, world};

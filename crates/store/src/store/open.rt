@@ -9,7 +9,8 @@ use calls::{Step, Version};
 use kinds::Kind;
 
 impl<'a, K: Kind> Store<'a, K> {
-    // Takes slices of any length and content. What can be stored in them is asked of the store, by `usable`.
+    // Takes slices of any length and content. What can be stored in them is asked of the store, by `usable`. This gives `Held` itself: the
+    // ghost field of a store says only that there is a proof of it.
     pub fn open(
         versions: &'a mut [Version],
         values: &'a mut [K],
