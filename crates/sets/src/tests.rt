@@ -1,5 +1,5 @@
 // Runs of the set on a few events and at its limit.
-use crate::SetForm;
+use crate::{Mark, SetForm};
 use kinds::{Change, Kind, KindFault, Question, Stamp};
 use std::test::Fail;
 
@@ -109,4 +109,53 @@ fn names_the_place_of_what_it_does_not_know(rt: HostRuntime) {
         set.change(at(1, 0), elsewhere),
         Err(KindFault::UnknownChange(3))
     );
+}
+
+// A form of these rows, whatever they are.
+fn form(rows: &[Mark], count: usize) -> SetForm {
+    let mut form = SetForm::empty();
+    for (place, row) in form.rows.iter_mut().zip(rows.iter()) {
+        *place = *row;
+    }
+    form.count = count;
+    form
+}
+
+// What no contract says, since such a form stands for no history: what the set knows is refused and alters nothing, and the form is asked
+// as the empty one is. The forms have more rows than places, equal keys, and falling keys.
+#[test]
+fn refuses_a_form_that_fails_the_check(rt: HostRuntime) {
+    let full = Err(KindFault::DoesNotFit(0));
+    let seven = Mark {
+        object: 7,
+        branch: 0,
+        event: 1,
+    };
+    let again = Mark { event: 2, ..seven };
+    let lower = Mark { object: 6, ..seven };
+    let empty = SetForm::empty();
+    for form in [
+        form(&[seven], 97),
+        form(&[seven, again], 2),
+        form(&[seven, lower], 2),
+    ] {
+        let mut set = form;
+        assert_eq!(rt; set.change(at(3, 0), mark(7)), full);
+        assert_eq!(rt; set.change(at(3, 0), clear(7)), full);
+        assert_eq!(rt;
+            set.change(at(3, 0), mark(-1)),
+            Err(KindFault::UnknownChange(0))
+        );
+        assert!(rt; set.rows == form.rows && set.count == form.count);
+        assert_eq!(rt; set.answer(member(7)), Ok(0));
+        assert_eq!(rt; set.answer(member(-1)), Err(KindFault::UnknownQuestion(0)));
+        for (base, first, second) in [
+            (form, empty, empty),
+            (empty, form, empty),
+            (empty, empty, form),
+        ] {
+            let merged = SetForm::merge(&base, &first, &second);
+            assert!(rt; matches!(merged, Err(KindFault::DoesNotFit(0))));
+        }
+    }
 }

@@ -1,137 +1,200 @@
-// The calls of the task, and why they are made.
+// Two stories of a build team: what its agents do to a worklist, in the order of the calls, and why.
 use calls::{Action, Call};
-use kinds::{Change, Question};
+use worklists::{Operation, Query};
 
+// What is done, by branch numbers: a fork makes the next branch.
 #[derive(Clone, Copy)]
-pub struct Line {
-    // a heading above the call
-    pub why: Option<&'static str>,
-    pub call: Call,
+pub(crate) enum Deed {
+    Fork { at: u32 },
+    Work(u8, Operation),
+    Merge { from: u8, into: u8 },
+    Ask(u8, Query),
 }
 
-// What a counter knows: verb 1 adds, question 1 asks for the count.
-const ADD: u8 = 1;
-
-pub const COUNT: u8 = 1;
-
-const UNKNOWN: u8 = 9;
-
-// One above the most that a change may add.
-const MISTYPED: i32 = 1_000_001;
-
-// Branches, as they are numbered in the order of their forks.
-const A: u8 = 0;
-
-const B: u8 = 1;
-
-const C: u8 = 2;
-
-const D: u8 = 3;
-
-const E: u8 = 4;
-
-// Versions at which branches are forked: the empty one, and those of the first change and the second.
-const EMPTY: u32 = 0;
-
-const FIRST: u32 = 1;
-
-const SECOND: u32 = 2;
-
-fn plain(call: Call) -> Line {
-    Line { why: None, call }
-}
-
-fn headed(why: &'static str, line: Line) -> Line {
-    Line {
-        why: Some(why),
-        ..line
+impl Deed {
+    // The call on a store that does it.
+    pub(crate) fn call(self) -> Call {
+        match self {
+            Deed::Fork { at } => Call::Act(Action::Fork(at)),
+            Deed::Work(branch, operation) => Call::Act(Action::Change(branch, operation.change())),
+            Deed::Merge { from, into } => Call::Act(Action::Merge(into, from)),
+            Deed::Ask(branch, query) => Call::Ask(branch, query.question()),
+        }
     }
 }
 
-fn add(branch: u8, amount: i32) -> Line {
-    let change = Change {
-        place: 0,
-        verb: ADD,
-        argument: amount,
-    };
-    plain(Call::Act(Action::Change(branch, change)))
+#[derive(Clone, Copy)]
+pub(crate) struct Scene {
+    pub why: &'static str,
+    pub deeds: &'static [Deed],
 }
 
-fn fork(version: u32) -> Line {
-    plain(Call::Act(Action::Fork(version)))
+#[derive(Clone, Copy)]
+pub(crate) struct Story {
+    pub title: &'static str,
+    // who works on each branch, in the order of the forks
+    pub agents: &'static [&'static str],
+    pub scenes: &'static [Scene],
 }
 
-fn merge(from: u8, into: u8) -> Line {
-    plain(Call::Act(Action::Merge(into, from)))
-}
+pub(crate) const TEAM: u8 = 0;
 
-fn ask(branch: u8, verb: u8) -> Line {
-    let question = Question {
-        place: 0,
-        verb,
-        argument: 0,
-    };
-    plain(Call::Ask(branch, question))
-}
+const BUILDER: u8 = 1;
 
-// A count of 10, to which one branch adds 3 while another takes back 4.
-pub(crate) fn apart() -> [Line; 11] {
-    [
-        headed("1. The team has rebuilt ten objects.", add(A, 10)),
-        headed(
-            "2. An agent forks there. Unseen by each other, the team rebuilds three and the agent takes back four.",
-            fork(FIRST),
-        ),
-        add(A, 3),
-        add(B, -4),
-        headed(
-            "3. The agent mistypes a change, and then a question. Both are refused, and nothing is altered.",
-            add(B, MISTYPED),
-        ),
-        ask(B, UNKNOWN),
-        ask(B, COUNT),
-        headed(
-            "4. Both have seen version 1, so the merge starts from it: 13 + 6, less the 10 that both hold.",
-            merge(B, A),
-        ),
-        ask(A, COUNT),
-        headed(
-            "5. Merged again, there is nothing to add: the version stays, and nothing counts twice.",
-            merge(B, A),
-        ),
-        ask(A, COUNT),
-    ]
-}
+const WATCHER: u8 = 2;
+
+// The objects of the first story.
+pub(crate) const BOOT: u16 = 7;
+
+pub(crate) const NETWORK: u16 = 12;
+
+// Versions of the first story: the last before the agents go on apart, the last that the watcher makes, and the one by which the team takes
+// over the builder's work.
+pub(crate) const COMMON: u32 = 4;
+
+pub(crate) const WATCHED: u32 = 10;
+
+pub(crate) const TAKEN_OVER: u32 = 11;
+
+// One above the most that is added to a count at once.
+const MISTYPED: i32 = 1_000_001;
+
+// A mark that a clear has not seen, with all that goes on around it.
+pub(crate) const FRESH_MARK: Story = Story {
+    title: "The mark that a clear had not seen",
+    agents: &["team", "builder", "watcher"],
+    scenes: &[
+        Scene {
+            why: "1. The boot code, object 7, and the network code, object 12, are stale and wait to be rebuilt.",
+            deeds: &[
+                Deed::Work(TEAM, Operation::Mark(BOOT)),
+                Deed::Work(TEAM, Operation::Mark(NETWORK)),
+                Deed::Work(TEAM, Operation::Put(BOOT)),
+                Deed::Work(TEAM, Operation::Put(NETWORK)),
+            ],
+        },
+        Scene {
+            why: "2. Two agents go on from there: one that builds, and one that watches the environment.",
+            deeds: &[Deed::Fork { at: COMMON }, Deed::Fork { at: COMMON }],
+        },
+        Scene {
+            why: "3. The builder takes the first object, rebuilds it, and clears its mark.",
+            deeds: &[
+                Deed::Work(BUILDER, Operation::Take),
+                Deed::Work(BUILDER, Operation::Rebuild(1)),
+                Deed::Work(BUILDER, Operation::Clear(BOOT)),
+            ],
+        },
+        Scene {
+            why: "4. Meanwhile an environment variable changes. The watcher, who has seen none of that, marks object 7 again, takes it too, and skips it for now.",
+            deeds: &[
+                Deed::Work(WATCHER, Operation::Mark(BOOT)),
+                Deed::Work(WATCHER, Operation::Take),
+                Deed::Work(WATCHER, Operation::Skip(1)),
+            ],
+        },
+        Scene {
+            why: "5. The team takes over the builder's work: object 7 is stale no more.",
+            deeds: &[
+                Deed::Merge {
+                    from: BUILDER,
+                    into: TEAM,
+                },
+                Deed::Ask(TEAM, Query::IsStale(BOOT)),
+            ],
+        },
+        Scene {
+            why: "6. Then the watcher's. The clear had not seen its mark, so object 7 is stale. What both took is gone from the queue once.",
+            deeds: &[
+                Deed::Merge {
+                    from: WATCHER,
+                    into: TEAM,
+                },
+                Deed::Ask(TEAM, Query::IsStale(BOOT)),
+                Deed::Ask(TEAM, Query::Waiting),
+                Deed::Ask(TEAM, Query::FirstWaiting),
+                Deed::Ask(TEAM, Query::Rebuilds),
+                Deed::Ask(TEAM, Query::Skips),
+            ],
+        },
+        Scene {
+            why: "7. A slip of the builder's is refused and alters nothing. Merged once more, its work adds nothing.",
+            deeds: &[
+                Deed::Work(BUILDER, Operation::Rebuild(MISTYPED)),
+                Deed::Merge {
+                    from: BUILDER,
+                    into: TEAM,
+                },
+                Deed::Ask(TEAM, Query::Rebuilds),
+            ],
+        },
+    ],
+};
+
+const AGENT_1: u8 = 1;
+
+const AGENT_2: u8 = 2;
+
+const AGENT_3: u8 = 3;
+
+const AGENT_4: u8 = 4;
 
 // Two branches go on from one version and each merges another, so that no version has seen just what both have seen.
-pub(crate) fn crossed() -> [Line; 15] {
-    [
-        headed(
-            "1. Two agents begin with nothing. Amounts of 1, 2, 4 and 8 show which changes are in a count.",
-            add(A, 1),
-        ),
-        fork(EMPTY),
-        add(B, 2),
-        headed("2. Two more agents take over, one from each.", fork(FIRST)),
-        fork(SECOND),
-        headed(
-            "3. Branches 0 and 2 both go on from version 1, and then each merges version 2 by itself.",
-            add(A, 4),
-        ),
-        merge(B, A),
-        add(C, 8),
-        merge(D, C),
-        headed(
-            "4. Both have seen the changes 1 and 2, and no version just these: there is no base to merge from.",
-            merge(C, A),
-        ),
-        ask(A, COUNT),
-        headed(
-            "5. A branch that has seen just these gives a base. Then each change counts once: 1 + 2 + 4 + 8.",
-            fork(FIRST),
-        ),
-        merge(D, E),
-        merge(C, A),
-        ask(A, COUNT),
-    ]
-}
+pub(crate) const CROSSWISE: Story = Story {
+    title: "Work taken over crosswise",
+    agents: &["team", "agent 1", "agent 2", "agent 3", "agent 4"],
+    scenes: &[
+        Scene {
+            why: "1. The team and an agent begin apart. Amounts of 1, 2, 4 and 8 show which changes are in a count.",
+            deeds: &[
+                Deed::Work(TEAM, Operation::Rebuild(1)),
+                Deed::Fork { at: 0 },
+                Deed::Work(AGENT_1, Operation::Rebuild(2)),
+            ],
+        },
+        Scene {
+            why: "2. Two more agents take over, one from each.",
+            deeds: &[Deed::Fork { at: 1 }, Deed::Fork { at: 2 }],
+        },
+        Scene {
+            why: "3. The team and agent 2 both go on from version 1, and then each merges version 2 by itself.",
+            deeds: &[
+                Deed::Work(TEAM, Operation::Rebuild(4)),
+                Deed::Merge {
+                    from: AGENT_1,
+                    into: TEAM,
+                },
+                Deed::Work(AGENT_2, Operation::Rebuild(8)),
+                Deed::Merge {
+                    from: AGENT_3,
+                    into: AGENT_2,
+                },
+            ],
+        },
+        Scene {
+            why: "4. Both have seen the events 1 and 2, and no version just these: there is no base to merge from.",
+            deeds: &[
+                Deed::Merge {
+                    from: AGENT_2,
+                    into: TEAM,
+                },
+                Deed::Ask(TEAM, Query::Rebuilds),
+            ],
+        },
+        Scene {
+            why: "5. A branch that has seen just these gives a base. Then each change counts once: 1 + 2 + 4 + 8.",
+            deeds: &[
+                Deed::Fork { at: 1 },
+                Deed::Merge {
+                    from: AGENT_3,
+                    into: AGENT_4,
+                },
+                Deed::Merge {
+                    from: AGENT_2,
+                    into: TEAM,
+                },
+                Deed::Ask(TEAM, Query::Rebuilds),
+            ],
+        },
+    ],
+};

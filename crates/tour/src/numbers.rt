@@ -1,0 +1,52 @@
+// A merge by object numbers: the same joining of rows, over rows that are the number of a stale object and nothing else. It is what a store
+// of such rows would do, and shows what they lack.
+ghost use Rattle.std.proofs.Common.{rules};
+
+use rows::{Row, join};
+use std::alloc::{AllocError, Global};
+
+#[derive(Clone, Copy, PartialEq, Eq)]
+struct Bare(u16);
+
+impl Row for Bare {
+    type Key = u16;
+
+    ghost key = { λ row. row.0 };
+
+    ghost whole = { Prim.search rules };
+
+    ghost level = { Prim.search rules };
+
+    fn key(&self) -> u16 {
+        self.0
+    }
+}
+
+fn bare_rows(alloc: Global, objects: &[u16]) -> Result<Vec<Bare>, AllocError> {
+    objects.iter().map(|object| Bare(*object)).collect(alloc)
+}
+
+// The objects that are stale after such a merge.
+pub(crate) fn merged(
+    alloc: Global,
+    base: &[u16],
+    first: &[u16],
+    second: &[u16],
+) -> Result<Vec<u16>, AllocError> {
+    let base = bare_rows(alloc, base)?;
+    let first = bare_rows(alloc, first)?;
+    let second = bare_rows(alloc, second)?;
+    // a join has at most the rows of both sides
+    let mut out = Vec::from_slice(alloc, first.as_slice())?;
+    out.extend_from_slice(second.as_slice())?;
+    let count = join(
+        base.as_slice(),
+        first.as_slice(),
+        second.as_slice(),
+        out.as_mut_slice(),
+    );
+    out.iter()
+        .take(count.unwrap_or(0))
+        .map(|row| row.0)
+        .collect(alloc)
+}
