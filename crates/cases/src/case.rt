@@ -2,6 +2,7 @@
 use anyhow::bail;
 use calls::{Action, Call, Reply, Step, StoreFault, Version};
 use kinds::{Change, Kind, KindFault, Question};
+use std::alloc::{AllocError, Global};
 use store::Store;
 
 pub(crate) type Outcome = Result<Reply, StoreFault>;
@@ -10,8 +11,19 @@ pub(crate) type Line = (Call, Outcome);
 
 #[derive(Drop)]
 pub(crate) struct Case {
-    pub title: &'static str,
-    pub lines: Vec<Line>,
+    title: &'static str,
+    lines: Vec<Line>,
+}
+
+impl Case {
+    pub(crate) fn new(
+        alloc: Global,
+        title: &'static str,
+        lines: &[Line],
+    ) -> Result<Case, AllocError> {
+        let lines = Vec::from_slice(alloc, lines)?;
+        Ok(Case { title, lines })
+    }
 }
 
 // ---- calls, by their numbers
@@ -76,14 +88,14 @@ pub(crate) fn unheard(place: u32) -> Outcome {
 
 // ---- cases on a store
 
-// As many versions as the longest case makes.
+// More versions than any case makes.
 const VERSIONS: usize = 256;
 
 const STEPS: usize = VERSIONS + 14;
 
 // Runs a case, and stops at the first call with another outcome.
-fn follow<R: Print + AllocGlobal, K: Kind>(
-    rt: &R,
+fn follow<K: Kind>(
+    rt: &(impl Print + AllocGlobal),
     store: &mut Store<'_, K>,
     case: &Case,
 ) -> anyhow::Result<()> {
@@ -92,10 +104,13 @@ fn follow<R: Print + AllocGlobal, K: Kind>(
     let calls: Vec<Call> = case.lines.iter().map(|line| line.0).collect(alloc)?;
     let mut outcomes = vec![in alloc; Err(StoreFault::NoVersion); calls.len()]?;
     let tried = store.run(calls.as_slice(), outcomes.as_mut_slice());
-    for ((call, wanted), outcome) in case.lines.iter().zip(outcomes.iter()) {
+    let lines = case.lines.iter().zip(outcomes.iter());
+    for (number, ((call, wanted), outcome)) in (1u32..).zip(lines) {
         if outcome != wanted {
-            println!(rt; "   {title}: {call:?} came out as {outcome:?}, and not as {wanted:?}")?;
-            bail!("a call has another outcome than it should");
+            println!(rt;
+                "   {title}: call {number}, {call:?}, came out as {outcome:?}, and not as {wanted:?}"
+            )?;
+            bail!("{title}: call {number} has another outcome than it should");
         }
     }
     println!(rt; "   {title} ({tried} calls)")?;
@@ -103,8 +118,8 @@ fn follow<R: Print + AllocGlobal, K: Kind>(
 }
 
 // Runs the cases of a kind, and says how they came out.
-pub(crate) fn follow_all<R: Print + AllocGlobal, K: Kind>(
-    rt: &R,
+pub(crate) fn follow_all<K: Kind>(
+    rt: &(impl Print + AllocGlobal),
     name: &str,
     cases: &[Case],
 ) -> anyhow::Result<()> {

@@ -1,4 +1,4 @@
-// Runs cases on a store of each kind, and ends with an error at the first call that has another outcome than it should.
+// Runs cases on stores of sets, queues and worklists, and ends with an error at the first call that has another outcome than it should.
 #![tactic(auto)]
 
 mod case;
@@ -15,11 +15,11 @@ use worklists::Worklist;
 fn main(rt: HostRuntime) -> anyhow::Result<()> {
     println!(rt; "Cases, each a list of calls on a store just opened")?;
     let sets = set_cases::cases(rt.alloc())?;
-    follow_all::<HostRuntime, SetForm>(&rt, "sets", sets.as_slice())?;
+    follow_all::<SetForm>(&rt, "sets", sets.as_slice())?;
     let queues = queue_cases::cases(rt.alloc())?;
-    follow_all::<HostRuntime, Queue>(&rt, "queues", queues.as_slice())?;
+    follow_all::<Queue>(&rt, "queues", queues.as_slice())?;
     let worklists = worklist_cases::cases(rt.alloc())?;
-    follow_all::<HostRuntime, Worklist>(&rt, "worklists", worklists.as_slice())?;
+    follow_all::<Worklist>(&rt, "worklists", worklists.as_slice())?;
     let stale = example::is_stale()?;
     println!(rt; "\nThe README's example, whether the object is stale: {stale}")?;
     println!(rt; "\nAll came out as they should.")?;

@@ -57,6 +57,36 @@ fn two_takers() -> [Line; 11] {
     ]
 }
 
+// Branch 0 puts one more and takes both, where branch 1 has seen the first alone.
+fn takers_apart() -> [Line; 9] {
+    [
+        (put(0, 5), changed(1, 1)),
+        (fork(1), branch(1)),
+        (put(0, 6), changed(2, 2)),
+        (take(0), changed(3, 5)),
+        (take(0), changed(4, 6)),
+        (take(1), changed(5, 5)),
+        (take(1), changed(6, -1)),
+        (merge(0, 1), version(7)),
+        (waiting(0), answer(0)),
+    ]
+}
+
+// A take passes over an earlier put that it has not seen.
+fn unseen_put() -> [Line; 9] {
+    [
+        (fork(0), branch(1)),
+        (put(1, 6), changed(1, 1)),
+        (put(0, 5), changed(2, 1)),
+        (take(0), changed(3, 5)),
+        (merge(0, 1), version(4)),
+        (first(0), answer(6)),
+        (take(1), changed(5, 6)),
+        (merge(1, 0), version(6)),
+        (waiting(1), answer(0)),
+    ]
+}
+
 fn full(alloc: Global) -> Result<Vec<Line>, AllocError> {
     let mut lines = Vec::new(alloc);
     for number in 1..65u8 {
@@ -99,21 +129,35 @@ fn unknowns() -> [Line; 10] {
 
 pub(crate) fn cases(alloc: Global) -> Result<Vec<Case>, AllocError> {
     Ok(vec![in alloc;
-        Case {
-            title: "puts wait in the order of their events, on whichever branches",
-            lines: Vec::from_slice(alloc, &order())?,
-        },
-        Case {
-            title: "two takers reply the same item, and merged it is gone once",
-            lines: Vec::from_slice(alloc, &two_takers())?,
-        },
-        Case {
-            title: "64 wait, and no more, by a put or by a merge",
-            lines: full(alloc)?,
-        },
-        Case {
-            title: "what it does not know is refused, by the place asked",
-            lines: Vec::from_slice(alloc, &unknowns())?,
-        },
+        Case::new(
+            alloc,
+            "puts wait in the order of their events, on whichever branches",
+            &order()
+        )?,
+        Case::new(
+            alloc,
+            "two takers reply the same item, and merged it is gone once",
+            &two_takers()
+        )?,
+        Case::new(
+            alloc,
+            "takers who have seen different puts leave none of them",
+            &takers_apart()
+        )?,
+        Case::new(
+            alloc,
+            "a take leaves an earlier put that it has not seen",
+            &unseen_put()
+        )?,
+        Case::new(
+            alloc,
+            "64 wait, and no more, by a put or by a merge",
+            full(alloc)?.as_slice()
+        )?,
+        Case::new(
+            alloc,
+            "what it does not know is refused, by the place asked",
+            &unknowns()
+        )?,
     ]?)
 }

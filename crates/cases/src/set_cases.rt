@@ -3,7 +3,7 @@ use crate::case::{
     Case, Line, answer, branch, change, changed, fork, merge, question, unfit, unheard, unknown,
     version,
 };
-use calls::Call;
+use calls::{Call, StoreFault};
 use std::alloc::{AllocError, Global};
 
 fn mark(branch: u8, object: i32) -> Call {
@@ -55,6 +55,62 @@ fn two_clears() -> [Line; 14] {
         (member(0, 7), answer(1)),
         (merge(2, 3), version(8)),
         (member(2, 7), answer(0)),
+    ]
+}
+
+// A branch clears a mark that another branch makes anew: the new mark is another one, though at the same object and branch.
+fn marked_anew() -> [Line; 11] {
+    [
+        (mark(0, 7), changed(1, 0)),
+        (fork(1), branch(1)),
+        (clear(1, 7), changed(2, 1)),
+        (mark(0, 7), changed(3, 1)),
+        (merge(1, 0), version(4)),
+        (member(1, 7), answer(1)),
+        (merge(0, 1), version(5)),
+        (member(0, 7), answer(1)),
+        (clear(0, 7), changed(6, 1)),
+        (member(0, 7), answer(0)),
+        (clear(0, 7), changed(7, 0)),
+    ]
+}
+
+// Two branches mark the same object, and one clear has seen both marks.
+fn one_clear() -> [Line; 9] {
+    [
+        (mark(0, 7), changed(1, 0)),
+        (fork(0), branch(1)),
+        (mark(1, 7), changed(2, 0)),
+        (merge(0, 1), version(3)),
+        (clear(0, 7), changed(4, 1)),
+        (member(0, 7), answer(0)),
+        (member(1, 7), answer(1)),
+        (merge(1, 0), version(5)),
+        (member(1, 7), answer(0)),
+    ]
+}
+
+// Branches 0 and 2 go on from one version and each merges another, so that there is no base until a branch is made that has seen just what
+// both have seen.
+fn crosswise() -> [Line; 17] {
+    [
+        (mark(0, 1), changed(1, 0)),
+        (fork(0), branch(1)),
+        (mark(1, 2), changed(2, 0)),
+        (fork(1), branch(2)),
+        (fork(2), branch(3)),
+        (mark(0, 3), changed(3, 0)),
+        (merge(0, 1), version(4)),
+        (mark(2, 4), changed(5, 0)),
+        (merge(2, 3), version(6)),
+        (merge(0, 2), Err(StoreFault::NoBase(0))),
+        (fork(1), branch(4)),
+        (merge(4, 3), version(7)),
+        (merge(0, 2), version(8)),
+        (member(0, 1), answer(1)),
+        (member(0, 2), answer(1)),
+        (member(0, 3), answer(1)),
+        (member(0, 4), answer(1)),
     ]
 }
 
@@ -121,25 +177,41 @@ fn unknowns() -> [Line; 9] {
 
 pub(crate) fn cases(alloc: Global) -> Result<Vec<Case>, AllocError> {
     Ok(vec![in alloc;
-        Case {
-            title: "a mark stands until a clear that saw it",
-            lines: Vec::from_slice(alloc, &fresh_mark())?,
-        },
-        Case {
-            title: "two clears that saw a mark each leave none",
-            lines: Vec::from_slice(alloc, &two_clears())?,
-        },
-        Case {
-            title: "96 rows fit: a branch marks its own object again, and no other",
-            lines: full(alloc)?,
-        },
-        Case {
-            title: "a merge of two sides that do not fit together is refused, and alters nothing",
-            lines: too_much_together(alloc)?,
-        },
-        Case {
-            title: "what it does not know is refused, by the place asked",
-            lines: Vec::from_slice(alloc, &unknowns())?,
-        },
+        Case::new(
+            alloc,
+            "a mark stands until a clear that saw it",
+            &fresh_mark()
+        )?,
+        Case::new(alloc, "a mark made anew is another mark", &marked_anew())?,
+        Case::new(
+            alloc,
+            "one clear takes away all marks that it saw",
+            &one_clear()
+        )?,
+        Case::new(
+            alloc,
+            "two clears that saw a mark each leave none",
+            &two_clears()
+        )?,
+        Case::new(
+            alloc,
+            "a merge crosswise has no base, until a version has seen just that",
+            &crosswise()
+        )?,
+        Case::new(
+            alloc,
+            "96 rows fit: a branch marks its own object again, and no other",
+            full(alloc)?.as_slice()
+        )?,
+        Case::new(
+            alloc,
+            "a merge of two sides that do not fit together is refused, and alters nothing",
+            too_much_together(alloc)?.as_slice()
+        )?,
+        Case::new(
+            alloc,
+            "what it does not know is refused, by the place asked",
+            &unknowns()
+        )?,
     ]?)
 }

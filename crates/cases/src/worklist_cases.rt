@@ -85,6 +85,8 @@ fn full(alloc: Global) -> Result<Vec<Line>, AllocError> {
         (ask(0, Query::Waiting), answer(64)),
         (work(0, Operation::Clear(0)), changed(164, 1)),
         (merge(0, 2), unfit(QUEUE)),
+        // and the set's part, which would fit now, is not kept
+        (ask(0, Query::IsStale(999)), answer(0)),
         (work(0, Operation::Take), changed(165, 0)),
         (merge(0, 2), version(166)),
         (ask(0, Query::IsStale(999)), answer(1)),
@@ -112,21 +114,25 @@ fn unknowns() -> [Line; 8] {
 
 pub(crate) fn cases(alloc: Global) -> Result<Vec<Case>, AllocError> {
     Ok(vec![in alloc;
-        Case {
-            title: "a fresh mark, a branch that is not there and a verb that is not known, by numbers",
-            lines: Vec::from_slice(alloc, &numbers())?,
-        },
-        Case {
-            title: "four parts, each at its place, merge side by side",
-            lines: Vec::from_slice(alloc, &parts())?,
-        },
-        Case {
-            title: "where a part does not fit its place is named, and the set's where neither does",
-            lines: full(alloc)?,
-        },
-        Case {
-            title: "what no part knows is refused, by the place asked",
-            lines: Vec::from_slice(alloc, &unknowns())?,
-        },
+        Case::new(
+            alloc,
+            "a fresh mark, a branch that is not there and a verb that is not known, by numbers",
+            &numbers()
+        )?,
+        Case::new(
+            alloc,
+            "four parts, each at its place, merge side by side",
+            &parts()
+        )?,
+        Case::new(
+            alloc,
+            "where a part does not fit its place is named, and the set's where neither does",
+            full(alloc)?.as_slice()
+        )?,
+        Case::new(
+            alloc,
+            "what no part knows is refused, by the place asked",
+            &unknowns()
+        )?,
     ]?)
 }

@@ -6,3 +6,6 @@ mod keyed;
 
 pub use joining::{join, rising};
 pub use keyed::Row;
+
+#[cfg(test)]
+mod tests;

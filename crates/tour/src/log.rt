@@ -3,8 +3,9 @@ use crate::story::{Deed, Story};
 use crate::trail::Trail;
 use crate::words::{Answered, Asked, Done, Replied, ranges};
 use calls::{Call, Reply, StoreFault};
+use std::alloc::{AllocError, Global};
 use store::Store;
-use worklists::{Operation, Query, Worklist};
+use worklists::Worklist;
 
 type Outcome = Result<Reply, StoreFault>;
 
@@ -50,40 +51,42 @@ impl Log {
         outcomes: &[Outcome],
     ) -> anyhow::Result<()> {
         for (deed, outcome) in deeds.iter().zip(outcomes.iter()) {
-            self.deed(rt, *deed, *outcome)?;
+            let line = self.line(rt.alloc(), *deed, *outcome)?;
+            println!(rt; "   {line}")?;
         }
         Ok(())
     }
 
-    fn deed<R: Print + AllocGlobal>(
-        &mut self,
-        rt: &R,
-        deed: Deed,
-        outcome: Outcome,
-    ) -> anyhow::Result<()> {
-        let call = deed.call();
-        match deed {
-            Deed::Fork { at } => {
-                self.trail.follow(rt.alloc(), call, outcome)?;
-                self.fork(rt, at, outcome)
-            }
-            Deed::Work(branch, operation) => {
-                let seen = ranges(rt.alloc(), self.trail.seen(branch))?;
-                self.trail.follow(rt.alloc(), call, outcome)?;
-                self.work(rt, branch, operation, outcome, seen.as_str())
-            }
-            Deed::Merge { from, into } => {
-                let head = self.trail.head(into);
-                self.trail.follow(rt.alloc(), call, outcome)?;
-                self.merge(rt, from, into, outcome, head)
-            }
-            Deed::Ask(branch, query) => self.query(rt, branch, query, outcome),
+    // The line of a call, as in 'builder clears object 7: it was stale [event 7, version 7; had seen 1-6]'.
+    fn line(&mut self, alloc: Global, deed: Deed, outcome: Outcome) -> Result<String, AllocError> {
+        let branch = self.branch(deed);
+        let agent = self.agent(branch);
+        let done = self.done(alloc, deed)?;
+        let before = ranges(alloc, self.trail.seen(branch))?;
+        let head = self.trail.head(branch);
+        self.trail.follow(alloc, deed.call(), outcome)?;
+        let seen = ranges(alloc, self.trail.seen(branch))?;
+        let reply = match outcome {
+            Ok(reply) => reply,
+            Err(fault) => return format!(in alloc; "{agent} {done}: refused, {fault}"),
+        };
+        let came = came(alloc, deed, reply, head)?;
+        if let Reply::Changed(version, _) = reply {
+            let event = self.trail.latest();
+            return format!(in alloc;
+                "{agent} {done}: {came} [event {event}, version {version}; had seen {before}]"
+            );
         }
+        format!(in alloc; "{agent} {done}: {came} [has seen {seen}]")
     }
 
-    // How many branches there are.
-    pub(crate) fn branches(&self) -> u8 {
-        self.trail.branches()
+    // The branch on which something is done: for a fork, the one that it makes.
+    fn branch(&self, deed: Deed) -> u8 {
+        match deed {
+            Deed::Fork { .. } => self.trail.branches(),
+            Deed::Work(branch, _) | Deed::Ask(branch, _) => branch,
+            Deed::Merge { into, .. } => into,
+        }
     }
 
     // Who works on a branch.
@@ -94,93 +97,31 @@ impl Log {
             .unwrap_or("nobody")
     }
 
-    fn fork<R: Print + AllocGlobal>(
-        &self,
-        rt: &R,
-        at: u32,
-        outcome: Outcome,
-    ) -> anyhow::Result<()> {
-        match outcome {
-            Ok(Reply::Branch(branch)) => {
-                let agent = self.agent(branch);
-                let seen = ranges(rt.alloc(), self.trail.seen(branch))?;
-                println!(rt;
-                    "   {agent} forks at version {at}: branch {branch} [has seen {seen}]"
-                )?;
-            }
-            Ok(_) => {}
-            Err(fault) => println!(rt; "   fork at version {at}: refused, {fault}")?,
+    fn done(&self, alloc: Global, deed: Deed) -> Result<String, AllocError> {
+        match deed {
+            Deed::Fork { at } => format!(in alloc; "forks at version {at}"),
+            Deed::Work(_, operation) => Done(operation).to_string(alloc),
+            Deed::Merge { from, .. } => format!(in alloc; "merges {}", self.agent(from)),
+            Deed::Ask(_, query) => Asked(query).to_string(alloc),
         }
-        Ok(())
     }
+}
 
-    fn work<R: Print + AllocGlobal>(
-        &self,
-        rt: &R,
-        branch: u8,
-        operation: Operation,
-        outcome: Outcome,
-        seen: &str,
-    ) -> anyhow::Result<()> {
-        let agent = self.agent(branch);
-        let done = Done(operation);
-        match outcome {
-            Ok(Reply::Changed(version, reply)) => {
-                let event = self.trail.latest();
-                let replied = Replied(operation, reply);
-                println!(rt;
-                    "   {agent} {done}: {replied} [event {event}, version {version}; had seen {seen}]"
-                )?;
-            }
-            Ok(_) => {}
-            Err(fault) => println!(rt; "   {agent} {done}: refused, {fault}")?,
+// What comes of a call, on a branch that had this head before, in words.
+fn came(alloc: Global, deed: Deed, reply: Reply, head: u32) -> Result<String, AllocError> {
+    match reply {
+        Reply::Branch(branch) => format!(in alloc; "branch {branch}"),
+        Reply::Version(version) if version == head => {
+            format!(in alloc; "nothing new, still version {version}")
         }
-        Ok(())
-    }
-
-    fn merge<R: Print + AllocGlobal>(
-        &self,
-        rt: &R,
-        from: u8,
-        into: u8,
-        outcome: Outcome,
-        head: u32,
-    ) -> anyhow::Result<()> {
-        let agent = self.agent(into);
-        let source = self.agent(from);
-        let seen = ranges(rt.alloc(), self.trail.seen(into))?;
-        match outcome {
-            Ok(Reply::Version(version)) if version == head => {
-                println!(rt;
-                    "   {agent} merges {source}: nothing new, still version {version} [has seen {seen}]"
-                )?;
-            }
-            Ok(Reply::Version(version)) => {
-                println!(rt; "   {agent} merges {source}: version {version} [has seen {seen}]")?;
-            }
-            Ok(_) => {}
-            Err(fault) => println!(rt; "   {agent} merges {source}: refused, {fault}")?,
-        }
-        Ok(())
-    }
-
-    fn query<R: Print + AllocGlobal>(
-        &self,
-        rt: &R,
-        branch: u8,
-        query: Query,
-        outcome: Outcome,
-    ) -> anyhow::Result<()> {
-        let agent = self.agent(branch);
-        let asked = Asked(query);
-        match outcome {
-            Ok(Reply::Answer(answer)) => {
-                let answered = Answered(query, answer);
-                println!(rt; "   {agent}, {asked} {answered}")?;
-            }
-            Ok(_) => {}
-            Err(fault) => println!(rt; "   {agent}, {asked} refused, {fault}")?,
-        }
-        Ok(())
+        Reply::Version(version) => format!(in alloc; "version {version}"),
+        Reply::Changed(_, reply) => match deed {
+            Deed::Work(_, operation) => Replied(operation, reply).to_string(alloc),
+            _ => reply.to_string(alloc),
+        },
+        Reply::Answer(answer) => match deed {
+            Deed::Ask(_, query) => Answered(query, answer).to_string(alloc),
+            _ => answer.to_string(alloc),
+        },
     }
 }

@@ -1,5 +1,5 @@
-// Follows the work of a build team from beginning to end, on a store of worklists: how a fresh mark outlives a clear that had not seen it,
-// what a merge by object numbers would have made of it, and how a merge is refused until there is a version to merge from.
+// Follows the work of build teams from beginning to end, on a store of worklists: how a merge is refused until there is a version to merge
+// from, how a fresh mark outlives a clear that had not seen it, and what a merge by object numbers would have made of it.
 #![tactic(auto)]
 
 mod log;
@@ -14,7 +14,7 @@ use kinds::Kind;
 use log::Log;
 use store::Store;
 use story::{CROSSWISE, FRESH_MARK};
-use worklists::Worklist;
+use worklists::{Worklist, number};
 
 const VERSIONS: usize = 32;
 
@@ -29,10 +29,15 @@ fn main(rt: HostRuntime) -> anyhow::Result<()> {
     let mut steps = [Step::BLANK; STEPS];
     let mut store = Store::open(&mut versions, &mut values, &mut steps);
     let usable = store.usable();
-    println!(rt; "A build team's worklist, in a store with room for {usable} versions")?;
-    let log = Log::follow(&rt, &mut store, &FRESH_MARK)?;
-    report::branches(&rt, &store, &log)?;
-    report::by_numbers(&rt, &mut store)?;
+    let kind = number();
+    println!(rt;
+        "A build team's worklist (kind {kind}), in a store with room for {usable} versions."
+    )?;
+    println!(rt;
+        "In brackets stands what a call made, and what its branch had seen before it, or has seen since, by the numbers of events."
+    )?;
     Log::follow(&rt, &mut store, &CROSSWISE)?;
-    Ok(())
+    let log = Log::follow(&rt, &mut store, &FRESH_MARK)?;
+    report::print_branches(&rt, &store, &log)?;
+    report::print_merge_by_numbers(&rt, &mut store)
 }

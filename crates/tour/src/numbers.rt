@@ -2,6 +2,7 @@
 // of such rows would do, and shows what they lack.
 ghost use Rattle.std.proofs.Common.{rules};
 
+use anyhow::Context;
 use rows::{Row, join};
 use std::alloc::{AllocError, Global};
 
@@ -32,21 +33,18 @@ pub(crate) fn merged(
     base: &[u16],
     first: &[u16],
     second: &[u16],
-) -> Result<Vec<u16>, AllocError> {
+) -> anyhow::Result<Vec<u16>> {
     let base = bare_rows(alloc, base)?;
     let first = bare_rows(alloc, first)?;
     let second = bare_rows(alloc, second)?;
-    // a join has at most the rows of both sides
-    let mut out = Vec::from_slice(alloc, first.as_slice())?;
-    out.extend_from_slice(second.as_slice())?;
+    let mut out = vec![in alloc; Bare(0); first.len() + second.len()]?;
     let count = join(
         base.as_slice(),
         first.as_slice(),
         second.as_slice(),
         out.as_mut_slice(),
-    );
-    out.iter()
-        .take(count.unwrap_or(0))
-        .map(|row| row.0)
-        .collect(alloc)
+    )
+    .context("a join has at most the rows of both sides")?;
+    let objects = out.iter().take(count).map(|row| row.0).collect(alloc)?;
+    Ok(objects)
 }

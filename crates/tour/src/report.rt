@@ -1,23 +1,28 @@
-// What branches say at the end of the first story, and what a merge by object numbers would have made of it.
+// What branches say at the end of the story of the fresh mark, and what a merge by object numbers would have made of it.
 use crate::log::Log;
 use crate::numbers::merged;
-use crate::story::{BOOT, COMMON, NETWORK, TAKEN_OVER, TEAM, WATCHED};
+use crate::story::{BOOT, BUILDER, COMMON, NETWORK, TEAM, WATCHER};
 use crate::words::{Answered, listed, ranges};
 use calls::StoreFault;
 use store::Store;
 use worklists::{Query, Worklist};
 
-type Lists<'a> = Store<'a, Worklist>;
+// The objects that the story speaks of.
+const OBJECTS: [u16; 2] = [BOOT, NETWORK];
 
-fn answer(store: &Lists<'_>, branch: u8, query: Query) -> Result<Answered, StoreFault> {
+fn answer(store: &Store<'_, Worklist>, branch: u8, query: Query) -> Result<Answered, StoreFault> {
     let answer = store.ask(branch, query.question())?;
     Ok(Answered(query, answer))
 }
 
 // Those of the story's objects that are stale with a branch.
-fn stale<R: AllocGlobal>(rt: &R, store: &Lists<'_>, branch: u8) -> anyhow::Result<Vec<u16>> {
+fn stale<R: AllocGlobal>(
+    rt: &R,
+    store: &Store<'_, Worklist>,
+    branch: u8,
+) -> anyhow::Result<Vec<u16>> {
     let mut objects = Vec::new(rt.alloc());
-    for object in [BOOT, NETWORK] {
+    for object in OBJECTS {
         if store.ask(branch, Query::IsStale(object).question())? == 1 {
             objects.push(object)?;
         }
@@ -25,10 +30,10 @@ fn stale<R: AllocGlobal>(rt: &R, store: &Lists<'_>, branch: u8) -> anyhow::Resul
     Ok(objects)
 }
 
-// What an agent's branch has seen, and what it says.
-fn branch<R: Print + AllocGlobal>(
+// What a branch has seen, and what it says.
+fn print_branch<R: Print + AllocGlobal>(
     rt: &R,
-    store: &Lists<'_>,
+    store: &Store<'_, Worklist>,
     log: &Log,
     branch: u8,
 ) -> anyhow::Result<()> {
@@ -48,58 +53,63 @@ fn branch<R: Print + AllocGlobal>(
     Ok(())
 }
 
-// What the branches of a story say at its end.
-pub(crate) fn branches<R: Print + AllocGlobal>(
+// What the branches of the story say at its end.
+pub(crate) fn print_branches<R: Print + AllocGlobal>(
     rt: &R,
-    store: &Lists<'_>,
+    store: &Store<'_, Worklist>,
     log: &Log,
 ) -> anyhow::Result<()> {
-    println!(rt; "\nWhat each branch has seen, and says")?;
-    for number in 0..log.branches() {
-        branch(rt, store, log, number)?;
+    let objects = listed(rt.alloc(), &OBJECTS)?;
+    println!(rt; "\nWhat each branch has seen, and says (of the objects {objects})")?;
+    for branch in 0..log.trail.branches() {
+        print_branch(rt, store, log, branch)?;
     }
     Ok(())
 }
 
-// The objects that were stale at a version, with a branch that is forked there; prints them too.
-fn stale_at<R: Print + AllocGlobal>(
+fn print_objects<R: Print + AllocGlobal>(
     rt: &R,
-    store: &mut Lists<'_>,
-    whose: &str,
-    version: u32,
-) -> anyhow::Result<Vec<u16>> {
-    let branch = store.fork(version)?;
-    let objects = stale(rt, store, branch)?;
-    let list = listed(rt.alloc(), objects.as_slice())?;
-    println!(rt; "   stale at version {version}, {whose}: {list}")?;
-    Ok(objects)
+    title: &str,
+    objects: &[u16],
+) -> anyhow::Result<()> {
+    let objects = listed(rt.alloc(), objects)?;
+    println!(rt; "   {title}: {objects}")?;
+    Ok(())
 }
 
-// The merge of the watcher into the team once more, on object numbers alone.
-pub(crate) fn by_numbers<R: Print + AllocGlobal>(
+// The merge of the builder and the watcher once more, on object numbers alone. The state from which both began is asked of a branch that is
+// forked there.
+pub(crate) fn print_merge_by_numbers<R: Print + AllocGlobal>(
     rt: &R,
-    store: &mut Lists<'_>,
+    store: &mut Store<'_, Worklist>,
 ) -> anyhow::Result<()> {
     let alloc = rt.alloc();
-    println!(rt; "\nWhat a merge by object numbers would have said, of the watcher into the team")?;
-    let base = stale_at(rt, store, "which both have seen", COMMON)?;
-    let first = stale_at(rt, store, "the team's", TAKEN_OVER)?;
-    let second = stale_at(rt, store, "the watcher's", WATCHED)?;
-    let numbers = merged(alloc, base.as_slice(), first.as_slice(), second.as_slice())?;
+    let began = store.fork(COMMON)?;
+    let base = stale(rt, store, began)?;
+    let first = stale(rt, store, BUILDER)?;
+    let second = stale(rt, store, WATCHER)?;
     let seen = stale(rt, store, TEAM)?;
+    let numbers = merged(alloc, base.as_slice(), first.as_slice(), second.as_slice())?;
     let dropped: Vec<u16> = seen
         .iter()
         .copied()
         .filter(|object| !numbers.contains(object))
         .collect(alloc)?;
-    let numbers = listed(alloc, numbers.as_slice())?;
-    let seen = listed(alloc, seen.as_slice())?;
-    let dropped = listed(alloc, dropped.as_slice())?;
-    println!(rt; "   merged by object numbers: {numbers}")?;
-    println!(rt; "   merged by what was seen: {seen}")?;
-    println!(rt; "   dropped by object numbers: {dropped}")?;
     println!(rt;
-        "   By numbers alone the watcher has changed nothing, so the team's side is taken, and with it the clear of a mark that it had not seen."
+        "\nWhat a merge of the builder and the watcher by object numbers would have said"
+    )?;
+    print_objects(rt, "stale at the version where both began", base.as_slice())?;
+    print_objects(rt, "stale with the builder", first.as_slice())?;
+    print_objects(rt, "stale with the watcher", second.as_slice())?;
+    print_objects(rt, "merged by object numbers", numbers.as_slice())?;
+    print_objects(
+        rt,
+        "merged by what was seen, with the team",
+        seen.as_slice(),
+    )?;
+    print_objects(rt, "dropped by object numbers", dropped.as_slice())?;
+    println!(rt;
+        "   By numbers alone the watcher has changed nothing, so the builder's side is taken, and with it a clear that had not seen the watcher's mark."
     )?;
     Ok(())
 }

@@ -39,22 +39,17 @@ pub(crate) struct Story {
 
 pub(crate) const TEAM: u8 = 0;
 
-const BUILDER: u8 = 1;
+pub(crate) const BUILDER: u8 = 1;
 
-const WATCHER: u8 = 2;
+pub(crate) const WATCHER: u8 = 2;
 
-// The objects of the first story.
+// The objects of the story of the fresh mark.
 pub(crate) const BOOT: u16 = 7;
 
 pub(crate) const NETWORK: u16 = 12;
 
-// Versions of the first story: the last before the agents go on apart, the last that the watcher makes, and the one by which the team takes
-// over the builder's work.
+// The last version before its agents go on apart.
 pub(crate) const COMMON: u32 = 4;
-
-pub(crate) const WATCHED: u32 = 10;
-
-pub(crate) const TAKEN_OVER: u32 = 11;
 
 // One above the most that is added to a count at once.
 const MISTYPED: i32 = 1_000_001;
@@ -118,7 +113,11 @@ pub(crate) const FRESH_MARK: Story = Story {
             ],
         },
         Scene {
-            why: "7. A slip of the builder's is refused and alters nothing. Merged once more, its work adds nothing.",
+            why: "7. Object 7 is stale and waits no more, so the team puts it into the queue again.",
+            deeds: &[Deed::Work(TEAM, Operation::Put(BOOT))],
+        },
+        Scene {
+            why: "8. A slip of the builder's, more than a million rebuilds at once, is refused and alters nothing (place 1 is their count). Merged once more, its work adds nothing.",
             deeds: &[
                 Deed::Work(BUILDER, Operation::Rebuild(MISTYPED)),
                 Deed::Merge {

@@ -39,18 +39,18 @@ impl fmt::Display for Replied {
     }
 }
 
-// As in 'is object 7 stale?'.
+// As in 'is asked whether object 7 is stale'.
 #[derive(Clone, Copy)]
 pub(crate) struct Asked(pub Query);
 
 impl fmt::Display for Asked {
     fn fmt<W: fmt::Write>(&self, f: &mut fmt::Formatter<W>) -> fmt::Result {
         match self.0 {
-            Query::IsStale(object) => write!(f, "is object {object} stale?"),
-            Query::Rebuilds => write!(f, "how many were rebuilt?"),
-            Query::FirstWaiting => write!(f, "which object waits first?"),
-            Query::Waiting => write!(f, "how many wait?"),
-            Query::Skips => write!(f, "how many were skipped?"),
+            Query::IsStale(object) => write!(f, "is asked whether object {object} is stale"),
+            Query::Rebuilds => write!(f, "is asked how many were rebuilt"),
+            Query::FirstWaiting => write!(f, "is asked which object waits first"),
+            Query::Waiting => write!(f, "is asked how many wait"),
+            Query::Skips => write!(f, "is asked how many were skipped"),
         }
     }
 }

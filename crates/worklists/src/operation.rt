@@ -1,7 +1,7 @@
 // What agents do to a worklist, and the changes that say so.
 ghost use Rattle.std.specs.Prelude.{◌≡◌, List};
 ghost use Rattle.kinds.specs.Events.{Event};
-ghost use Rattle.worklists.specs.Operations.{change_of, in_range, reply_to};
+ghost use Rattle.worklists.specs.Operations.{InTurn, change_of, in_range, reply_to, state_of};
 
 use crate::places::{QUEUE, REBUILDS, SKIPS, STALE};
 use crate::worklist::Worklist;
@@ -29,8 +29,9 @@ impl Operation {
         ensures made { result ≡ change_of self }
         // only an amount can be out of range, and is unknown to the worklist then
         ensures known { ⟦<Worklist as Kind>⟧.meaning.knows result ≡ in_range self }
-        // the part that it speaks of replies, by what it was sent
-        ensures reply { (h : List Event) → ⟦<Worklist as Kind>⟧.meaning.reply h result ≡ reply_to self h }
+        // the reply is that of a plain worklist, in the state that the history comes to
+        ensures reply { (h : List Event) → ⟦<Worklist as Kind>⟧.meaning.reply h result ≡ reply_to self (state_of h) }
+        ensures in_turn { InTurn self result }
     {
         let (place, verb, argument) = match self {
             Operation::Mark(object) => (STALE, 1, i32::from(object)),

@@ -1,7 +1,7 @@
 // What is asked of a worklist, and the questions that ask it.
 ghost use Rattle.std.specs.Prelude.{◌≡◌, List, true};
 ghost use Rattle.kinds.specs.Events.{Event};
-ghost use Rattle.worklists.specs.Operations.{answer_to, question_of};
+ghost use Rattle.worklists.specs.Operations.{answer_to, question_of, state_of};
 
 use crate::places::{QUEUE, REBUILDS, SKIPS, STALE};
 use crate::worklist::Worklist;
@@ -26,8 +26,8 @@ impl Query {
     pub fn question(self) -> Question
         ensures asked { result ≡ question_of self }
         ensures known { ⟦<Worklist as Kind>⟧.meaning.hears result ≡ true }
-        // the part that it speaks of answers, by what it was sent
-        ensures answer { (h : List Event) → ⟦<Worklist as Kind>⟧.meaning.answer h result ≡ answer_to self h }
+        // the answer is that of a plain worklist, in the state that the history comes to
+        ensures answer { (h : List Event) → ⟦<Worklist as Kind>⟧.meaning.answer h result ≡ answer_to self (state_of h) }
     {
         let (place, verb, argument) = match self {
             Query::IsStale(object) => (STALE, 1, i32::from(object)),

@@ -1,5 +1,5 @@
 // Runs of the queue: its order, its limit, takes on two branches, and a value that stands for no history.
-use super::{CAPACITY, EMPTY_WAIT, Queue};
+use super::{CAPACITY, EMPTY_WAIT, Queue, Wait};
 use kinds::{Change, Kind, KindFault, Question, Stamp};
 use std::test::Fail;
 
@@ -116,6 +116,24 @@ fn refuses_a_value_with_more_than_fit(rt: HostRuntime) -> Result<(), Fail> {
     ] {
         let merged = Queue::merge(&base, &first, &second);
         assert!(rt; matches!(merged, Err(KindFault::DoesNotFit(0))));
+    }
+    Ok(())
+}
+
+// Nor does a contract say what becomes of rows that don't rise, by equal event numbers or falling ones: they are used as they lie.
+#[test]
+fn uses_rows_that_do_not_rise_as_they_lie(rt: HostRuntime) -> Result<(), Fail> {
+    for event in [4, 3] {
+        let mut queue = Queue::empty();
+        queue.rows[0] = Wait { event: 4, item: 5 };
+        queue.rows[1] = Wait { event, item: 6 };
+        queue.count = 2;
+        assert_eq!(rt; queue.answer(asked(1))?, 5);
+        let merged = Queue::merge(&queue, &queue, &queue)?;
+        assert_eq!(rt; merged.answer(asked(2))?, 2);
+        for item in [5, 6, -1] {
+            assert_eq!(rt; queue.change(at(5), take())?, item);
+        }
     }
     Ok(())
 }

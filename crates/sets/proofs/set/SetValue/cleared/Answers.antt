@@ -12,7 +12,7 @@ pub bounds-rows-count : goal.bounds-rows-count
 bounds-rows-count c =
     let others = λ (x : Mark). not (eqb x.object c.args.object) in
     let turn = YieldsList-turn
-    (passing others c.live.result.now _ c.into_iter-row-iterator.ensures.into_iter_gives c.filter-row-items.ensures.source (cc) c.filter-row-items.ensures.closure (λ x b q k. search (rules, tests)))
+    (passing others c.live.result.now _ c.into_iter-row-iterator.ensures.into_iter_gives c.filter-row-items.ensures.source (cc) c.filter-row-items.ensures.closure (λ x b q k. (search (rules, tests), search (rules, tests))))
     c.loop-row.yielded _ c.loop-row.yielded_by _ _ c.in-Some.row c.in-Some.is c.next.ensures.steps in
     omega (arith, length-filter others c.live.result.now, count_by-le-length others c.live.result.now)
 
@@ -23,7 +23,7 @@ pub returns : goal.returns
 returns c =
     c.loop-row.invariant.written
     ∙ (YieldsList-end
-    (passing _ c.args.self.now _ c.into_iter-row-iterator.ensures.into_iter_gives c.filter-row-items.ensures.source (cc) c.filter-row-items.ensures.closure (λ x b q k. search (rules, tests)))
+    (passing _ c.args.self.now _ c.into_iter-row-iterator.ensures.into_iter_gives c.filter-row-items.ensures.source (cc) c.filter-row-items.ensures.closure (λ x b q k. (search (rules, tests), search (rules, tests))))
     c.loop-row.yielded _ c.loop-row.yielded_by _ _ c.in-None.is c.next.ensures.steps).0
 
 pub invariant_of-result : goal.invariant_of-result
