@@ -7,6 +7,7 @@ mod queue_cases;
 mod set_cases;
 mod worklist_cases;
 
+use anyhow::ensure;
 use case::follow_all;
 use queues::Queue;
 use sets::SetForm;
@@ -20,8 +21,11 @@ fn main(rt: HostRuntime) -> anyhow::Result<()> {
     follow_all::<Queue>(&rt, "queues", queues.as_slice())?;
     let worklists = worklist_cases::cases(rt.alloc())?;
     follow_all::<Worklist>(&rt, "worklists", worklists.as_slice())?;
-    let stale = example::is_stale()?;
-    println!(rt; "\nThe README's example, whether the object is stale: {stale}")?;
+    ensure!(
+        example::is_stale()?,
+        "the README's example: the object is not stale"
+    );
+    println!(rt; "\nThe README's example: the object is stale")?;
     println!(rt; "\nAll came out as they should.")?;
     Ok(())
 }

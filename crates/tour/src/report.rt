@@ -108,8 +108,10 @@ pub(crate) fn print_merge_by_numbers<R: Print + AllocGlobal>(
         seen.as_slice(),
     )?;
     print_objects(rt, "dropped by object numbers", dropped.as_slice())?;
-    println!(rt;
-        "   By numbers alone the watcher has changed nothing, so the builder's side is taken, and with it a clear that had not seen the watcher's mark."
-    )?;
+    if second.as_slice() == base.as_slice() && !dropped.is_empty() {
+        println!(rt;
+            "   By numbers alone the watcher has changed nothing, so the builder's side is taken, and with it a clear that had not seen the watcher's mark."
+        )?;
+    }
     Ok(())
 }
